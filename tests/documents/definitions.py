@@ -8,7 +8,7 @@ The definitions of the kit's crates that all these reach are counted and named, 
 
 Fails if PROVED and README have other counts of lines, of the kit's if it has PROVED's letter, if a definition to be believed names a type
 that is not public, if one, or what a public call promises, cites a constant of the code instead of the number, and if a file of specs/ has
-a definition that need not be believed without saying in its first line that its words are inner ones. Prints the counts."""
+a definition that need not be believed without saying in its first line that its words are inner ones. Ends with the counts."""
 import collections
 import pathlib
 import re
@@ -21,26 +21,18 @@ import needs
 
 CRATES = needs.ROOT / "crates"
 INNER = "-- Inner words"
-FIRST = (
-    "gas_geom",
-    "Fhp1",
-)  # the file that a reader sees first, because it says what a collision is
+FIRST = "gas_geom", "Fhp1"  # the file that a reader sees first: it says what a collision is
 ANSWER = [("gas_tool", "Program", name) for name in ("Ends", "exit_status")]
 SAID = {  # of the lines for answer
     "docs/PROVED.md": "{} lines of ours",
     "README.md": "{} lines of [definitions]",
 }
-# They relate a state of the code and the rows that may have led to it. The first call establishes them for empty lists, and every step
-# preserves them.
-REPRESENTATION = {"MayHaveBeenFed", "HoldsLast", "MayHaveDone", "MayHaveFed"}
 NAME = re.compile(r"[A-Za-z_ℕℤ⊤⊥][\w'⊤⊥ℕℤ-]*")
 HEAD = re.compile(r"^(?:(?:pub|abbrev|unfoldable|record|data) )+([\w'-]+)", re.M)
 USE = re.compile(r"^\s*(?:ghost )?use Rattle\.(\w+)\.specs\.([\w.]+)\.\{([^}]*)\}", re.M)
 USE_OF_TYPE = re.compile(
-    r"^\s*use Rattle\.(\w+)\.specs\.declared\.[\w.]*?(\w+)(?:\.TheVariants)?(?:\.\{([^}]*)\}| as (\w+))",
-    re.M,
+    r"(?m)^\s*use Rattle\.(\w+)\.specs\.declared\.[\w.]*?(\w+)(?:\.TheVariants)?(?:\.\{([^}]*)\}| as (\w+))"
 )
-
 MEMBER = re.compile(r"^((?:    ///[^\n]*\n)*    ghost (\w+): [^\n]*;)$", re.M)
 CONSTANT = re.compile(r"^\s*(?:pub(?:\(\w+\))? )?const (\w+):", re.M)
 
@@ -99,14 +91,8 @@ def types_in(text):
     found = {}
     for crate, kind, names, alias in USE_OF_TYPE.findall(text):
         if is_own(crate) and kind != "TheConstants":
-            found |= {
-                name: (crate, kind)
-                for name in (
-                    [alias]
-                    if alias
-                    else [part.strip().split(" as ")[-1] for part in names.split(",")]
-                )
-            }
+            here = [part.strip().split(" as ")[-1] for part in names.split(",")]
+            found |= dict.fromkeys([alias] if alias else here, (crate, kind))
     return found
 
 
@@ -120,10 +106,9 @@ def definitions_in(crate, file, text):
         uses = {(brought | local)[word] for word in words & {*brought, *local}}
         lines = sum(not line.lstrip().startswith("--") for line in block.strip("\n").split("\n"))
         for name in heads:
+            key, own = (crate, file, name), lines if name == heads[0] else 0
             own_types = {types[word] for word in words & types.keys() - local.keys()}
-            yield (crate, file, name), Definition(
-                lines if name == heads[0] else 0, uses - {(crate, file, name)}, own_types, words
-            )
+            yield key, Definition(own, uses - {key}, own_types, words)
         if re.search(r"^pub data ", block, re.M):
             for name in re.findall(r"^  (?:pub )?([\w'-]+) :", block, re.M):
                 yield (crate, file, name), Definition(0, {(crate, file, heads[0])}, set(), set())
@@ -143,10 +128,8 @@ def definitions_of(crate):
 
 def constants():
     """The constants of the code. Those that a trait asks for are what a type states of itself, and no limits."""
-    texts = [path.read_text() for path in CRATES.glob("*/src/**/*.rt")]
-    return {name for text in texts for name in CONSTANT.findall(text)} - {
-        name for text in texts for name in re.findall(r"^    ghost (\w+):", text, re.M)
-    }
+    text = "\n".join(path.read_text() for path in CRATES.glob("*/src/**/*.rt"))
+    return {*CONSTANT.findall(text)} - {*re.findall(r"^    ghost (\w+):", text, re.M)}
 
 
 def public_texts(crate):
@@ -182,9 +165,8 @@ def traits(text):
 
 def contracts(text, kinds="requires|ensures"):
     """The clauses of public functions and traits, and the types as which callers see public values."""
-    text = re.sub(
-        r";\s*\w+\]", "]", re.sub(r"//[^\n]*", "", text)
-    )  # an array's length does not end a signature
+    text = re.sub(r"//[^\n]*", "", text)
+    text = re.sub(r";\s*\w+\]", "]", text)  # an array's length does not end a signature
     private = set(re.findall(r"^(?:pub\(crate\) )?(?:struct|enum) (\w+)", text, re.M))
     for _, body in traits(text):
         yield from clauses(body, r"^    fn \w+", kinds)
@@ -226,20 +208,14 @@ def shown(crate, file, believed):
     title, *blocks = re.split(r"\n\s*\n", specs(crate, file).strip("\n"))
     yield f"\n## `{crate}/specs/{file.replace('.', '/')}.antt`\n"
     yield textwrap.fill(comment_of(title), 140) + "\n"
-    items = [
-        block
-        for block in blocks
-        if any((crate, file, name) in believed for name in HEAD.findall(block))
-    ]
-    yield "```antt\n" + "\n\n".join(items) + "\n```"
+    is_believed = lambda block: any((crate, file, it) in believed for it in HEAD.findall(block))
+    yield "```antt\n" + "\n\n".join(filter(is_believed, blocks)) + "\n```"
 
 
 def comment_of(block):
     """The comment at the head of a block, in one line."""
-    return " ".join(
-        line.removeprefix("--").strip()
-        for line in re.match(r"(?:--[^\n]*\n)*", block + "\n")[0].splitlines()
-    )
+    lines = re.match(r"(?:--[^\n]*\n)*", block + "\n")[0].splitlines()
+    return " ".join(line.removeprefix("--").strip() for line in lines)
 
 
 def reading_order(believed, known):
@@ -252,9 +228,8 @@ def reading_order(believed, known):
     for crate in crates:
         waiting = [file for file in cites if file[0] == crate and file != FIRST]
         while waiting:
-            ready = next(
-                (file for file in waiting if not cites[file] & (set(waiting) - {file})), waiting[0]
-            )
+            free = (file for file in waiting if not cites[file] & (set(waiting) - {file}))
+            ready = next(free, waiting[0])
             order.append(ready)
             waiting.remove(ready)
     return order
@@ -273,9 +248,8 @@ def reached_in_kit(believed, kit):
     wanted = set()
     for crate, file in {key[:2] for key in believed}:
         text = specs(crate, file)
-        names = {
-            name: key for name, key in kit_definitions.brought(text).items() if not is_own(key[0])
-        }
+        brought = kit_definitions.brought(text).items()
+        names = {name: key for name, key in brought if not is_own(key[0])}
         for block in re.split(r"\n\s*\n", text):
             if any((crate, file, name) in believed for name in HEAD.findall(block)):
                 code = kit_definitions.code_of(block)
@@ -293,9 +267,8 @@ def of_the_kit(reached, letter):
         files = {file: names for (of, file), names in sorted(reached.items()) if of == crate}
         parts = [f"`{file}`: {', '.join(sorted(names))}" for file, names in files.items()]
         text = f"- `{crate}`, {lines_of(files.values())} lines. " + ". ".join(parts)
-        yield textwrap.fill(
-            text, 140, subsequent_indent="  ", break_on_hyphens=False, break_long_words=False
-        )
+        known = {"break_on_hyphens": False, "break_long_words": False}
+        yield textwrap.fill(text, 140, subsequent_indent="  ", **known)
 
 
 def types_of(believed, known):
@@ -311,9 +284,8 @@ def complaints(believed, known, inner, public):
         if key in believed and key[:2] in inner:
             yield f"{where} is cited by a public contract, and its file says that it holds inner words"
     for crate, kind in sorted(types_of(believed, known)):
-        if not any(
-            re.search(rf"^pub (?:struct|enum) {kind}\b", text, re.M) for text in public[crate]
-        ):
+        is_public = re.compile(rf"^pub (?:struct|enum) {kind}\b", re.M).search
+        if not any(map(is_public, public[crate])):
             yield f"{kind} of {crate} is named by a definition to be believed, and callers can't name it"
 
 
@@ -326,13 +298,11 @@ def contracts_of(public, limits):
             brought, clauses_here = imports(text), list(contracts(text))
             named = set().union(*(names_in(clause, "//") for clause in clauses_here))
             cited |= {brought[word] for word in named & brought.keys()}
-            promised = set().union(
-                *(names_in(clause, "//") for clause in contracts(text, "ensures"))
-            )
-            wrong += [
-                f"a promise of a public call of {crate} cites {name}, a constant of the code"
-                for name in sorted(promised & limits)
-            ]
+            promised = {
+                it for clause in contracts(text, "ensures") for it in names_in(clause, "//")
+            }
+            why = f"a promise of a public call of {crate} cites {{}}, a constant of the code"
+            wrong += map(why.format, sorted(promised & limits))
             words |= {part for clause in clauses_here for part in re.findall(r"\w+", clause)}
             asked += [((crate, name), MEMBER.findall(body)) for name, body in traits(text)]
     named = {trait: [item for item, name in found if name in words] for trait, found in asked}
@@ -347,18 +317,6 @@ def unsaid(own, of_kit, letter):
         for said in [words.format(own)] + [f"{of_kit:,} of the kit's"] * has_letter:
             if f" {said}" not in text:
                 yield f"{name} does not say '{said}'"
-
-
-def print_counts(believed, known, own, of_kit):
-    lines = collections.Counter()
-    for key in believed:
-        lines[
-            "relations that calls establish and preserve" if key[2] in REPRESENTATION else key[0]
-        ] += known[key].lines
-    for name in sorted(lines):
-        print(f"{lines[name]:5} lines of {name}")
-    print(f"{lines.total():5} lines of {len(believed)} definitions, comments left out")
-    print(f"{own:5} lines of these for answer, and {of_kit} lines of the kit's crates")
 
 
 def main():
@@ -385,11 +343,9 @@ def main():
         for key in sorted(believed)
         for name in sorted(known[key].words & limits)
     ]
-    print_counts(believed, known, own, of_kit)
-    for line in wrong:
-        print(f"FAILED: {line}")
-    print(f"{len(known) - len(wrong)} passed, {len(wrong)} failed")
-    sys.exit(1 if wrong else 0)
+    print(f"{own} lines for answer, and {of_kit} of the kit's crates")
+    print("".join(f"FAILED: {line}\n" for line in wrong), end="")
+    sys.exit(needs.told(len(known) - len(wrong), len(wrong)))
 
 
 main()

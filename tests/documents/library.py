@@ -19,33 +19,19 @@ PAGE = (needs.ROOT / "docs/LIBRARY.md").read_text()
 def comparisons():
     """What must be, and whether it is."""
     (program,) = re.findall(r"^```rust\n(.*?)^```$", PAGE, re.M | re.S)
-    yield "the program is that of the example", (EXAMPLE / "src/main.rt").read_text().endswith(
-        f"\n{program}"
-    )
+    source = (EXAMPLE / "src/main.rt").read_text()
+    yield "the program is that of the example", source.endswith(f"\n{program}")
     invariant = re.search(r"^ *(invariant-.*)$", PAGE, re.M)[1]
-    yield "so is the invariant", invariant in (
-        EXAMPLE / "proofs/in_column/Invariants.antt"
-    ).read_text().splitlines()
-    scene = (EXAMPLE / "stdin").read_text()
-    yield "the example reads scenes/wind.toml", scene == (
-        needs.ROOT / "scenes/wind.toml"
-    ).read_text()
-    table = subprocess.run(
-        [PROGRAM, *COLUMNS.split()], input=scene, capture_output=True, text=True, check=True
-    ).stdout
+    invariants = (EXAMPLE / "proofs/in_column/Invariants.antt").read_text().splitlines()
+    yield "so is the invariant", invariant in invariants
+    scene, wind = (EXAMPLE / "stdin").read_text(), (needs.ROOT / "scenes/wind.toml").read_text()
+    yield "the example reads scenes/wind.toml", scene == wind
+    table = subprocess.check_output([PROGRAM, *COLUMNS.split()], input=scene, text=True)
     particles = [int(line.split()[3]) for line in table.splitlines()[1:]]
-    wanted = [
-        f"generation 12: {sum(particles)} particles",
-        *(f"column {x}: {n}" for x, n in enumerate(particles)),
-    ]
-    yield "it prints the particles of the columns", (
-        EXAMPLE / "stdout"
-    ).read_text().splitlines() == wanted
+    wanted = [f"column {x}: {n}" for x, n in enumerate(particles)]
+    wanted = [f"generation 12: {sum(particles)} particles", *wanted]
+    printed = (EXAMPLE / "stdout").read_text().splitlines()
+    yield "it prints the particles of the columns", printed == wanted
 
 
-compared = list(comparisons())
-failed = [what for what, is_so in compared if not is_so]
-for what in failed:
-    print(f"FAILED: {what}")
-print(f"{len(compared) - len(failed)} passed, {len(failed)} failed")
-sys.exit(bool(failed))
+sys.exit(needs.tell_wrong((what, not is_so) for what, is_so in comparisons()))

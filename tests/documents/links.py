@@ -14,8 +14,7 @@ ROOT = pathlib.Path(__file__).resolve().parents[2]
 FENCE = re.compile(r"^(```|~~~).*?^\1", re.M | re.S)
 CODE = re.compile(r"`[^`\n]*`")
 LINK = re.compile(
-    r"\]\(\s*<?([^)>\s]+)>?(?:\s+\"[^\"]*\")?\s*\)|^\[[^\]]+\]:\s*(\S+)|(?:src|href)=\"([^\"]+)\"",
-    re.M,
+    r"(?m)\]\(\s*<?([^)>\s]+)>?(?:\s+\"[^\"]*\")?\s*\)|^\[[^\]]+\]:\s*(\S+)|(?:src|href)=\"([^\"]+)\""
 )
 HEADING = re.compile(r"^#{1,6}[ \t]+(.*?)[ \t]*#*$", re.M)
 NAMED = re.compile(r"<\w+ (?:id|name)=\"([^\"]+)\"")
@@ -25,11 +24,8 @@ ELSEWHERE = re.compile(r"[a-z][a-z0-9+.-]*:", re.I)
 
 def documents():
     """The Markdown files, but for those that builds and version control keep."""
-    return [
-        path
-        for path in sorted(ROOT.rglob("*.md"))
-        if not {"out", ".git"} & set(path.relative_to(ROOT).parts)
-    ]
+    paths = sorted(ROOT.rglob("*.md"))
+    return [path for path in paths if not {"out", ".git"} & {*path.relative_to(ROOT).parts}]
 
 
 def anchors(text):
@@ -46,11 +42,8 @@ def anchors(text):
 
 def links(text):
     """What a document links to, and the number of the line."""
-    hidden = re.sub(
-        CODE,
-        lambda found: " " * len(found.group()),
-        FENCE.sub(lambda found: "\n" * found.group().count("\n"), text),
-    )
+    text = FENCE.sub(lambda found: "\n" * found.group().count("\n"), text)
+    hidden = CODE.sub(lambda found: " " * len(found.group()), text)
     for found in LINK.finditer(hidden):
         yield next(filter(None, found.groups())), hidden.count("\n", 0, found.start()) + 1
 
@@ -58,11 +51,8 @@ def links(text):
 def fault(document, link):
     """What is wrong with a link, or None."""
     path, _, anchor = urllib.parse.unquote(link).partition("#")
-    target = (
-        (ROOT / path.lstrip("/") if path.startswith("/") else document.parent / path).resolve()
-        if path
-        else document
-    )
+    above = ROOT if path.startswith("/") else document.parent
+    target = (above / path.lstrip("/")).resolve() if path else document
     if ROOT not in (target, *target.parents) or not target.exists():
         return "leads to no file"
     if anchor and target.suffix == ".md" and anchor not in anchors(target.read_text()):
@@ -74,12 +64,8 @@ def crates():
     """The crates that crates.txt lists, and the ones in the first column of the table in docs/ARCHITECTURE.md."""
     listed = set(re.findall(r"^(\w+)(?: staticlib)?:", (ROOT / "crates.txt").read_text(), re.M))
     table = (ROOT / "docs/ARCHITECTURE.md").read_text().split("| crate |")[1].split("\n\n")[0]
-    return listed, {
-        name
-        for row in table.split("\n")
-        if row.startswith("| `")
-        for name in re.findall(r"`(\w+)`", row.split("|")[1])
-    }
+    cells = re.findall(r"^\| (`[^|]*)\|", table, re.M)
+    return listed, {name for cell in cells for name in re.findall(r"`(\w+)`", cell)}
 
 
 def changes():
@@ -120,37 +106,26 @@ def faults_of_the_map():
 
 def help_and_formats():
     """The commands and the columns of the program's help, and the ones of docs/FORMATS.md, in order."""
-    help_text, formats = (ROOT / "crates/gas_tool_cli/src/help.rt").read_text(), (
-        ROOT / "docs/FORMATS.md"
-    ).read_text()
+    help_text = (ROOT / "crates/gas_tool_cli/src/help.rt").read_text()
+    formats = (ROOT / "docs/FORMATS.md").read_text()
     table = formats.split("| column |")[1].split("\n\n")[0]
-    columns = [
-        name
-        for row in re.findall(r"^\| (`.*?) \|", table, re.M)
-        for name in re.findall(r"`(\w+)`", row)
-    ]
-    told = [
-        name
-        for names in re.findall(r"^  (\w+(?:, \w+)*)  +", help_text, re.M)
-        for name in names.split(", ")
-    ]
-    commands = re.findall(
-        r"^\| `(\w+)` \|", formats.split("## The command line")[1].split("\n\n## ")[0], re.M
-    )
+    rows = re.findall(r"^\| (`.*?) \|", table, re.M)
+    columns = [name for row in rows for name in re.findall(r"`(\w+)`", row)]
+    rows = re.findall(r"^  (\w+(?:, \w+)*)  +", help_text, re.M)
+    told = [name for names in rows for name in names.split(", ")]
+    table = formats.split("## The command line")[1].split("\n\n## ")[0]
+    commands = re.findall(r"^\| `(\w+)` \|", table, re.M)
     return (re.findall(r'usage: "(?:\\\n)?fhpgas ([a-z]+)', help_text), commands), (told, columns)
 
 
 def faults_of_sources():
     """How many faults the documents have of what the sources say."""
-    failed = 0
-    for name in sorted(set.symmetric_difference(*crates())):
-        failed += 1
-        print(
-            f"FAILED: {name} stands in crates.txt or in the table of docs/ARCHITECTURE.md, and not in both"
-        )
-    for wrong in faults_of_the_map():
-        failed += 1
-        print(f"FAILED: docs/ARCHITECTURE.md, 'Where to put a change': {wrong}")
+    where = "docs/ARCHITECTURE.md"
+    one = f"stands in crates.txt or in the table of {where}, and not in both"
+    faults = [f"{name} {one}" for name in sorted(set.symmetric_difference(*crates()))]
+    faults += [f"{where}, 'Where to put a change': {wrong}" for wrong in faults_of_the_map()]
+    print("".join(f"FAILED: {fault}\n" for fault in faults), end="")
+    failed = len(faults)
     for told, written in help_and_formats():
         failed += told != written or not told
         if told != written:

@@ -24,10 +24,9 @@ BLOCK = re.compile(r"^```(\w*)\n(.*?)^```$", re.M | re.S)
 
 def fault(commands, wanted, room):
     """What is wrong if a block does not end with 0, or prints other text than `wanted` (None: any), or something on standard error."""
+    known = {"capture_output": True, "text": True, "timeout": 600}
     try:
-        ran = subprocess.run(
-            ["bash", "-ec", commands], cwd=room, capture_output=True, text=True, timeout=600
-        )
+        ran = subprocess.run(["bash", "-ec", commands], cwd=room, **known)
     except subprocess.TimeoutExpired as late:
         return str(late)
     if ran.returncode == 0 and not ran.stderr and wanted in (None, ran.stdout):
@@ -39,10 +38,8 @@ def tried(document):
     """Per block of a document its commands, and what is wrong with it."""
     blocks = BLOCK.findall(document.read_text())
     with tempfile.TemporaryDirectory() as room:
-        for name, path in {
-            "fhpgas": PROGRAM,
-            **{name: needs.ROOT / name for name in ("scenes", "python", "experiments")},
-        }.items():
+        paths = {name: needs.ROOT / name for name in ("scenes", "python", "experiments")}
+        for name, path in (paths | {"fhpgas": PROGRAM}).items():
             (pathlib.Path(room) / name).symlink_to(path)
         for (kind, commands), (after, text) in zip(blocks, blocks[1:] + [("", "")]):
             if kind == "sh":
@@ -53,10 +50,8 @@ def words_of_sources():
     """The sources that print messages, with literals that Python or Rust joins joined."""
     folders = {"python/fhpgas": "*.py", "page/src": "*.js", "crates": "*/src/*.rt", "tools": "*"}
     paths = [path for folder, name in folders.items() for path in (needs.ROOT / folder).glob(name)]
-    paths += [
-        needs.ROOT / name
-        for name in ("fhpgas", "Makefile", "tests/set_up/install.sh", "page/fhpgas.html")
-    ]
+    others = "fhpgas", "Makefile", "tests/set_up/install.sh", "page/fhpgas.html"
+    paths += [needs.ROOT / name for name in others]
     texts = [path.read_text(errors="replace") for path in paths if path.is_file()]
     return [re.sub(r'"\s*f?"', "", " ".join(text.split())) for text in texts]
 
@@ -77,30 +72,20 @@ def starts():
     """The starts of the page that docs/LESSON.md and docs/GUIDE.md name, and whether the page has them."""
     sources = (needs.ROOT / "page/src/presets.js").read_text()
     lesson, guide = ((needs.ROOT / f"docs/{name}.md").read_text() for name in ("LESSON", "GUIDE"))
-    for name in re.findall(
-        r'"([^"]+)"', lesson + guide.partition("## It moves")[2].split("```")[0]
-    ):
+    named = lesson + guide.partition("## It moves")[2].split("```")[0]
+    for name in re.findall(r'"([^"]+)"', named):
         name = " ".join(name.split())
         yield name, f'"{name}": {{' in sources
 
 
-def main():
-    passed = failed = 0
+def all_tried():
+    """Each case, and what is wrong with it."""
     for what, named in ("message of docs/TROUBLE.md", messages()), ("start of the page", starts()):
-        for name, is_known in named:
-            passed, failed = passed + is_known, failed + (not is_known)
-            if not is_known:
-                print(f"FAILED: no source has the {what}: {name}")
+        yield from ((f"no source has the {what}: {name}", not is_so) for name, is_so in named)
     with concurrent.futures.ThreadPoolExecutor(os.cpu_count()) as pool:
-        for document, blocks in zip(
-            DOCUMENTS, pool.map(lambda document: list(tried(document)), DOCUMENTS)
-        ):
-            for commands, wrong in blocks:
-                passed, failed = passed + (not wrong), failed + bool(wrong)
-                if wrong:
-                    print(f"FAILED: {document.relative_to(needs.ROOT)}: {commands}{wrong}")
-    print(f"{passed} passed, {failed} failed")
-    return 1 if failed or not passed else 0
+        blocks = pool.map(lambda document: list(tried(document)), DOCUMENTS)
+        for document, found in zip(DOCUMENTS, blocks):
+            yield from ((f"{document.name}: {commands}", wrong) for commands, wrong in found)
 
 
-sys.exit(main())
+sys.exit(needs.tell_wrong(all_tried()))

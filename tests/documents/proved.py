@@ -34,23 +34,17 @@ def clauses(path):
 def assumed(log):
     """The C functions that a log says the program's proof reached, as the page lists them."""
     crates = re.findall(r"^axioms (\w+): \d+ reached.*\n((?:  .*\n)*)", log, re.M)
-    return ", ".join(
-        f"of `{crate}` {', '.join(name.partition('::')[2] for name in names)}"
-        for crate, names in (
-            (it, re.findall(r"^  (\S+) +reached$", lines, re.M)) for it, lines in crates
-        )
-        if names
-    )
+    known = ((crate, re.findall(r"^  (\S+) +reached$", lines, re.M)) for crate, lines in crates)
+    named = {crate: ", ".join(name.partition("::")[2] for name in names) for crate, names in known}
+    return ", ".join(f"of `{crate}` {names}" for crate, names in named.items() if names)
 
 
 def complaints(page):
     letter = (kit_definitions.kit() or [None])[0]
-    if (
-        LOG.exists()
-        and f"in {letter}," in page
-        and assumed(LOG.read_text(errors="replace")) not in " ".join(page.split())
-    ):
-        yield f"the C functions are {assumed(LOG.read_text(errors='replace'))}"
+    if LOG.exists() and f"in {letter}," in page:
+        reached = assumed(LOG.read_text(errors="replace"))
+        if reached not in " ".join(page.split()):
+            yield f"the C functions are {reached}"
     files = dict(re.findall(r"^\[([\w:]+)\]: (\S+)$", page, re.M))
     for names, call in CITED.findall(page):
         path = PAGE.parent / files[call]

@@ -29,9 +29,8 @@ def sentences(text):
     text = re.sub(r"^(\||#|\[[^\]]+\]:).*$", "", without_code(text), flags=re.M)
     for paragraph in re.split(r"\n\s*\n|\n\s*(?:[-*]|\d+\.)\s", "\n" + text):
         plain = re.sub(r"`[^`]*`", "CODE", " ".join(paragraph.split()))
-        yield from re.split(
-            r"(?<=[.!?])[\"')*_]*\s+", re.sub(r"!?\[([^\]]*)\]\([^)]*\)", r"\1", plain)
-        )
+        plain = re.sub(r"!?\[([^\]]*)\]\([^)]*\)", r"\1", plain)
+        yield from re.split(r"(?<=[.!?])[\"')*_]*\s+", plain)
 
 
 def gone(text):

@@ -20,9 +20,7 @@ PLACES = {  # what is before and after the place, what --write may replace, and 
 
 
 def said_by(*words):
-    return subprocess.run(
-        words, capture_output=True, text=True, check=True, cwd=needs.ROOT
-    ).stdout.split()
+    return subprocess.check_output(words, text=True, cwd=needs.ROOT).split()
 
 
 def places(is_written):
@@ -40,11 +38,5 @@ def places(is_written):
     yield "what CHANGELOG dates has a tag", {f"v{number}" for number in dated} <= tags
 
 
-def main():
-    checked = list(places(sys.argv[1:] == ["--write"]))
-    for what, is_so in checked:
-        print("" if is_so else f"FAILED: {what}\n", end="")
-    return needs.told(sum(ok for _, ok in checked), sum(not ok for _, ok in checked))
-
-
-sys.exit(main())
+checked = places(sys.argv[1:] == ["--write"])
+sys.exit(needs.tell_wrong((what, not is_so) for what, is_so in checked))

@@ -51,6 +51,25 @@ def told(passed, failed, *left_out):
     return 1 if failed or not passed else LEFT_OUT if left_out else 0
 
 
+def tell_wrong(tried):
+    """Prints which cases are wrong of pairs of a case and why it is wrong, if it is (True: it says
+    so itself), and the last line of a script. Returns its status."""
+    tried = [*tried]
+    wrong = [f"FAILED: {case}{'' if why is True else f': {why}'}\n" for case, why in tried if why]
+    print(*wrong, sep="", end="")
+    return told(len(tried) - len(wrong), len(wrong))
+
+
+def why_wrong(case):
+    """A case, a function and its words, and what is wrong with it."""
+    name = " ".join(map(str, (case[0].__name__, *case[1:])))
+    try:
+        case[0](*case[1:])
+    except (AssertionError, ValueError, IndexError) as fault:
+        return name, str(fault) or repr(fault)
+    return name, None
+
+
 class Cases(unittest.TextTestResult):
     """Counts each case of a test, its `subTest`, for itself."""
 
@@ -124,9 +143,7 @@ def libraries(*more):
 
 def lacking_there(python):
     """The lines of what another Python lacks, all of them if it does not run."""
-    asked = subprocess.run(
-        [python, __file__, "own"], stdout=subprocess.PIPE, stderr=subprocess.DEVNULL, text=True
-    )
+    asked = subprocess.run([python, __file__, "own"], capture_output=True, text=True)
     return asked.stdout.split() if asked.returncode == 0 else list(WANTED)
 
 
@@ -141,19 +158,11 @@ if lacking():
     best = min(filter(os.path.exists, PYTHONS), key=lambda python: len(lacking_there(python)))
     if best != sys.executable:
         os.execv(best, [best, *sys.argv])
-os.environ[
-    "PATH"
-] = f"{os.path.dirname(sys.executable)}:{os.environ['PATH']}"  # for the `python3` of commands
+here = os.path.dirname(sys.executable)  # for the `python3` of commands
+os.environ["PATH"] = f"{here}:{os.environ['PATH']}"
 if sys.version_info < (3, 11):
     stop("this Python is too old: run it by Python 3.11 or later")
 if __name__ == "__main__":
-    versions = [
-        f"{name} {importlib.metadata.version(name)}" for name in WANTED if name not in lacking()
-    ]
-    print(
-        sys.executable,
-        f"Python {sys.version.split()[0]} with {', '.join(versions)}",
-        VENV,
-        lines(),
-        sep="\n",
-    )
+    has = [f"{name} {importlib.metadata.version(name)}" for name in WANTED if name not in lacking()]
+    own = f"Python {sys.version.split()[0]} with {', '.join(has)}"
+    print(sys.executable, own, VENV, lines(), sep="\n")

@@ -1,5 +1,6 @@
 """The lattice of a scene by docs/FORMATS.md only, slow on large ones: what `check` and `run
 --generations 0` must print. The module `needs` puts the package on the path."""
+import itertools
 import struct
 
 from fhpgas.reader import STATES, Refused, covering, read as keys_of
@@ -23,12 +24,9 @@ class Lattice:
         return f"gas {self.gas} {size} solid {solid} particles {self.particles()}\n"
 
     def printed(self):
-        rows = (
-            "".join("##" if cell is None else f"{cell:02x}" if cell else ".." for cell in row)
-            + "\n"
-            for row in self.rows
-        )
-        return f"generation {self.generation} particles {self.particles()}\n" + "".join(rows)
+        pair = lambda cell: "##" if cell is None else f"{cell:02x}" if cell else ".."
+        head = f"generation {self.generation} particles {self.particles()}"
+        return "\n".join([head, *("".join(map(pair, row)) for row in self.rows), ""])
 
 
 def read(text, most_cells):
@@ -37,11 +35,8 @@ def read(text, most_cells):
     table = keys_of(text)
     if "cells" not in table and table["width"] * table["height"] > most_cells:
         return None
-    return Lattice(
-        table["gas"],
-        table.get("generation", 0),
-        map_rows(table) if "cells" in table else area_rows(table),
-    )
+    rows = map_rows(table) if "cells" in table else area_rows(table)
+    return Lattice(table["gas"], table.get("generation", 0), rows)
 
 
 def map_rows(table):
@@ -54,9 +49,8 @@ def map_rows(table):
 
 def area_rows(table):
     width, height, solid = table["width"], table["height"], table.get("solid", [])
-    rows = [
-        [0 if covering(solid, x, y) is None else None for x in range(width)] for y in range(height)
-    ]
+    cell = lambda x, y: 0 if covering(solid, x, y) is None else None
+    rows = [[cell(x, y) for x in range(width)] for y in range(height)]
     for direction in range(STATES[table["gas"]].bit_length() - 1 if table.get("rate") else 0):
         words = iter(key_words(table.get("seed", 0), 2**63 + direction, width * height))
         for row in rows:
@@ -85,22 +79,9 @@ def chacha_block(seed, stream, block):
     ]
     words = start[:]
     for _ in range(10):
-        for a, b, c, d in (
-            (0, 4, 8, 12),
-            (1, 5, 9, 13),
-            (2, 6, 10, 14),
-            (3, 7, 11, 15),
-            (0, 5, 10, 15),
-            (1, 6, 11, 12),
-            (2, 7, 8, 13),
-            (3, 4, 9, 14),
-        ):
-            for here, other, turned, by in (
-                (a, b, d, 16),
-                (c, d, b, 12),
-                (a, b, d, 8),
-                (c, d, b, 7),
-            ):
+        for turn, k in itertools.product((0, 1), range(4)):  # the columns, and then the diagonals
+            a, b, c, d = (4 * row + (k + turn * row) % 4 for row in range(4))
+            for here, other, turned, by in (a, b, d, 16), (c, d, b, 12), (a, b, d, 8), (c, d, b, 7):
                 words[here] = words[here] + words[other] & 0xFFFFFFFF
                 mixed = words[turned] ^ words[here]
                 words[turned] = (mixed << by | mixed >> 32 - by) & 0xFFFFFFFF

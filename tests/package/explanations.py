@@ -54,29 +54,21 @@ def refused(text):
         return str(fault).removesuffix(" (`explain` says where)")
 
 
-def main():
+def tried():
     """The bare Python has neither numpy nor its packages' folders."""
-    tried = []
+    known = {"capture_output": True, "text": True}
     for text, line, reason in (case.split(" | ") for case in CASES.strip().split("\n")):
         for word, meaning in WORDS.items():
             text = text.replace(word, meaning)
         told = fhpgas.explain(text)
-        bare = subprocess.run(
-            [sys.executable, "-I", "-S", "-c", BARE, needs.ROOT / "python", text],
-            capture_output=True,
-            text=True,
-        )
-        tried += [
-            (text, told.startswith(f"{LINE}{line}\n  ") and reason in told.split("\nand then")[0]),
-            (text, refused(text) == LINE + line),
-            (text, bare.stdout == told and "fhpgas.draw_gas needs numpy" in bare.stderr),
-        ]
+        words = [sys.executable, "-I", "-S", "-c", BARE, needs.ROOT / "python", text]
+        bare = subprocess.run(words, **known)
+        is_told = told.startswith(f"{LINE}{line}\n  ") and reason in told.split("\nand then")[0]
+        is_alike = bare.stdout == told and "fhpgas.draw_gas needs numpy" in bare.stderr
+        for is_so in is_told, refused(text) == LINE + line, is_alike:
+            yield text, None if is_so else f"\n{told}"
     for path in sorted((needs.ROOT / "scenes").glob("*.toml")):
-        tried.append((path, fhpgas.explain(path) == refusals.NOT_REFUSED))
-    for text, _ in (failed := [pair for pair in tried if not pair[1]]):
-        print(f"FAILED: {text}\n{fhpgas.explain(text)}")
-    print(f"{len(tried) - len(failed)} passed, {len(failed)} failed")
-    sys.exit(1 if failed else 0)
+        yield path, fhpgas.explain(path) != refusals.NOT_REFUSED
 
 
-main()
+sys.exit(needs.tell_wrong(tried()))

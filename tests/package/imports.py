@@ -97,17 +97,10 @@ def checks():
 def main():
     if sys.argv[1:] == ["--draw"]:
         for graph in package()[0], page():
-            print(
-                *(f"{name}: {' '.join(sorted(below))}" for name, below in graph.items()), sep="\n"
-            )
+            for name, below in graph.items():
+                print(f"{name}: {' '.join(sorted(below))}")
         return 0
-    tried = list(checks())
-    for what, wrong in tried:
-        if wrong:
-            print(f"FAILED: {what}: {wrong}")
-    failed = sum(bool(wrong) for _, wrong in tried)
-    print(f"{len(tried) - failed} passed, {failed} failed")
-    return 1 if failed else 0
+    return needs.tell_wrong(checks())
 
 
 if __name__ == "__main__":

@@ -7,6 +7,7 @@ colours. Ends with the counts."""
 import base64
 import contextlib
 import io
+import itertools
 import os
 import sys
 
@@ -25,26 +26,23 @@ from PIL import Image  # noqa: E402
 MOST_BYTES = 600_000
 CHOSEN = 'GAS, CHIRALITY, ROWS, FILLING = "fhp1", "seeded", 64, 0.3'
 TRIED = [
-    *(("fhp1", side, d) for side in ("seeded", "left") for d in (0.05, 0.1, 0.15, 0.5)),
-    *(("fhp-rest", side, d) for side in ("seeded", "right") for d in (0.05, 0.5)),
+    *itertools.product(["fhp1"], ("seeded", "left"), (0.05, 0.1, 0.15, 0.5)),
+    *itertools.product(["fhp-rest"], ("seeded", "right"), (0.05, 0.5)),
 ]
 
 
 def texts(cell):
     """What a cell shows as text."""
-    return "".join(
-        out.get("text") or out.get("data", {}).get("text/plain", "")
-        for out in cell.get("outputs", [])
-    )
+    outs = cell.get("outputs", [])
+    return "".join(out.get("text") or out.get("data", {}).get("text/plain", "") for out in outs)
 
 
 def shrink(cell):
     """Leaves few colours in the pictures of a cell, rare ones too, as of the ends of a bar."""
     for out in cell.get("outputs", []):
         if "image/png" in out.get("data", {}):
-            small, picture = io.BytesIO(), Image.open(
-                io.BytesIO(base64.b64decode(out["data"]["image/png"]))
-            )
+            large = io.BytesIO(base64.b64decode(out["data"]["image/png"]))
+            small, picture = io.BytesIO(), Image.open(large)
             few = picture.convert("RGB").quantize(method=Image.Quantize.MAXCOVERAGE)
             few.save(small, "png", optimize=True)
             out["data"]["image/png"] = base64.b64encode(small.getvalue()).decode()
@@ -54,12 +52,8 @@ def wrong(path):
     """What is wrong with a notebook, after it ran."""
     before = nbformat.read(path, 4)
     after = nbformat.from_dict(before)
-    NotebookClient(
-        after,
-        timeout=600,
-        kernel_name="python3",
-        resources={"metadata": {"path": str(path.parent)}},
-    ).execute()
+    known = {"kernel_name": "python3", "resources": {"metadata": {"path": str(path.parent)}}}
+    NotebookClient(after, timeout=600, **known).execute()
     if "--keep" in sys.argv[1:]:
         for cell in after.cells:
             shrink(cell)
@@ -89,21 +83,14 @@ def fault_with(path, gas, side, filling):
     return ""
 
 
-def main():
-    failed, paths = 0, sorted((needs.ROOT / "notebooks").glob("*.ipynb"))
-    for path in paths:
-        if why := wrong(path):
-            failed += 1
-            print(f"FAILED: {path.name}: {why}")
+def tried():
+    """Each notebook and other values, and what is wrong."""
+    for path in sorted((needs.ROOT / "notebooks").glob("*.ipynb")):
+        yield path.name, wrong(path)
     os.chdir(needs.ROOT / "notebooks")
     os.environ["MPLBACKEND"] = "Agg"
-    tried = TRIED if "--keep" not in sys.argv[1:] else []
-    for values in tried:
-        if why := fault_with("first_class.ipynb", *values):
-            failed += 1
-            print(f"FAILED: {' '.join(map(str, values))}: {why}")
-    print(f"{len(paths) + len(tried) - failed} passed, {failed} failed")
-    return 1 if failed or not paths else 0
+    for values in TRIED if "--keep" not in sys.argv[1:] else []:
+        yield values, fault_with("first_class.ipynb", *values)
 
 
-sys.exit(main())
+sys.exit(needs.tell_wrong(tried()))

@@ -60,14 +60,6 @@ def tried(pairs, pictures):
         return found + [drawn(name, room) for name in pictures]
 
 
-def main():
-    os.environ["PYTHONPATH"] = str(needs.ROOT / "python")
-    passed = failed = 0
-    for title, *parts in sections():
-        for wrong in tried(*parts):
-            passed, failed = passed + (not wrong), failed + bool(wrong)
-            print(f"FAILED: {title}: {wrong}\n" if wrong else "", end="", flush=True)
-    return needs.told(passed, failed)
-
-
-sys.exit(main())
+os.environ["PYTHONPATH"] = str(needs.ROOT / "python")
+tried_all = ((title, wrong) for title, *parts in sections() for wrong in tried(*parts))
+sys.exit(needs.tell_wrong(tried_all))

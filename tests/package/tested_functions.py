@@ -52,12 +52,9 @@ def names(node, known, seen=()):
 
 
 def main():
-    lines = (needs.ROOT / "tests/package/tested_functions.txt").read_text().splitlines()
-    rows = {}
-    for line in lines:
-        if not line.startswith("#"):
-            name, test, source = line.split(" | ")
-            rows[name] = test.split()
+    text = (needs.ROOT / "tests/package/tested_functions.txt").read_text()
+    lines = [line.split(" | ") for line in text.splitlines() if line[0] != "#"]
+    rows = {name: test.split() for name, test, _ in lines}
     wrong = [f"{name} has no line" for name in public() if name not in rows]
     wrong += [f"{name} is no public function" for name in rows.keys() - {*public()}]
     for name, (script, test) in rows.items():
@@ -67,8 +64,7 @@ def main():
         elif name.rpartition(".")[2] not in names(known[test], known):
             wrong.append(f"{name}: {test} of {script}.py does not call it")
     print(*(f"FAILED: {each}" for each in wrong), sep="\n", end="\n" if wrong else "")
-    print(f"{len(rows) - len(wrong)} passed, {len(wrong)} failed")
-    return 1 if wrong else 0
+    return needs.told(len(rows) - len(wrong), len(wrong))
 
 
 if __name__ == "__main__":

@@ -24,30 +24,28 @@ TABLE = """\
   col   row    fluid particles         px         py
     0     0       12         8          3          1
 """
-# Commands, and what they print or how the files begin that they write. The first work everywhere, the second want program or engine.
-ALONE = [
-    ("fhpgas-tools --version", "fhpgas-tools "),
-    ("fhpgas-tools draw discs --width 64 --height 36 --disc 20 16 5 --filling 0.2", "width = 64"),
-    ("fhpgas-tools numbers --filling 0.2 --speed 0.3 --length 80", "mach"),
-    ("fhpgas-tools explain wrong.toml", "unknown key"),
-    ("fhpgas-tools picture particles a.png cells.txt --gas fhp1 --size 4 3", {"a.png": b"\x89PNG"}),
-    (
-        "fhpgas-tools picture speed b.svg table --gas hpp --size 4 3 --block 4 3",
-        {"b.svg": b"<?xml"},
-    ),
-    ("fhpgas-tools page --no-browser", "site/fhpgas/page/fhpgas.html\n"),
-    ("python3 -m fhpgas --help", "usage: "),
-]
-BUILT = [
-    ("fhpgas-tools picture density c.png scene.toml", {"c.png": b"\x89PNG"}),
-    ("fhpgas-tools film scene.toml d.gif --every 2 --until 4", {"d.gif": b"GIF8"}),
-    ("fhpgas-tools drive scene.toml 20 10 --flow 0.1", "velocity"),
-    ("fhpgas-tools over-time scene.toml 4 2", "generation 4 "),
-    ("fhpgas-tools over-seeds scene.toml --seeds 2 --generations 1", "u_error"),
-    ("fhpgas-tools long-run scene.toml 4 2 kept.toml", {"kept.toml": b"version"}),
-    ("fhpgas-tools how-long scene.toml 9 --seconds 1", "MLUPS"),
-    ("fhpgas-tools resume cells.toml cells.txt", "generation = 1"),
-]
+# Commands of fhpgas-tools, and what they print or what begins the file that they write. The first work everywhere, the second want program
+# or engine.
+ALONE = """
+--version | fhpgas-tools
+draw discs --width 64 --height 36 --disc 20 16 5 --filling 0.2 | width = 64
+numbers --filling 0.2 --speed 0.3 --length 80 | mach
+explain wrong.toml | unknown key
+picture particles a.png cells.txt --gas fhp1 --size 4 3 | a.png: \x89PNG
+picture speed b.svg table --gas hpp --size 4 3 --block 4 3 | b.svg: <?xml
+page --no-browser | site/fhpgas/page/fhpgas.html
+"""
+BUILT = """
+picture density c.png scene.toml | c.png: \x89PNG
+film scene.toml d.gif --every 2 --until 4 | d.gif: GIF8
+drive scene.toml 20 10 --flow 0.1 | velocity
+over-time scene.toml 4 2 | generation 4
+over-seeds scene.toml --seeds 2 --generations 1 | u_error
+long-run scene.toml 4 2 kept.toml | kept.toml: version
+how-long scene.toml 9 --seconds 1 | MLUPS
+resume cells.toml cells.txt | generation = 1
+"""
+ALONE, BUILT = ([line.split(" | ") for line in text[1:-1].split("\n")] for text in (ALONE, BUILT))
 EXAMPLES = """
 import doctest, fhpgas, importlib, numpy, pathlib
 names = {path.stem for path in pathlib.Path(fhpgas.__file__).parent.glob("*.py")} - {"__main__", "tiles"}
@@ -57,12 +55,11 @@ print(sum(each.attempted for each in tried) > 90, sum(each.failed for each in tr
 """
 OLD = "import sys; sys.version_info = (3, 10, 12); sys.argv[0] = {!r}; import fhpgas"
 NOTICES = "LICENSE-MIT", "LICENSE-APACHE", "NOTICES.md"
-counts = {True: 0, False: 0}
+TRIED = []
 
 
 def check(what, is_so, more=""):
-    counts[bool(is_so)] += 1
-    print("" if is_so else f"FAILED: {what}\n{more}", end="")
+    TRIED.append((what, None if is_so else f"\n{more}"))
 
 
 def pip(*words):
@@ -76,41 +73,33 @@ class Room:
         self.folder, self.site = folder, folder / "site"
         words = "install --root-user-action=ignore --no-deps --no-build-isolation --target".split()
         pip(*words, self.site, file)
-        for name, text in {
-            "scene.toml": SCENE,
-            "wrong.toml": SCENE + "colour = 1\n",
-            "cells.txt": CELLS,
-            "cells.toml": 'gas = "fhp1"\ncells = ["..01....", "........", "##20...."]\n',
-            "table": TABLE,
-        }.items():
+        cells = 'gas = "fhp1"\ncells = ["..01....", "........", "##20...."]\n'
+        files = {"scene.toml": SCENE, "wrong.toml": SCENE + "colour = 1\n", "table": TABLE}
+        for name, text in (files | {"cells.txt": CELLS, "cells.toml": cells}).items():
             (folder / name).write_text(text)
         (folder / "elsewhere").mkdir()
-        (folder / "elsewhere/sitecustomize.py").write_text(
-            "import os\ndel os.memfd_create, os.sched_getaffinity\n"
-        )
+        lacks = "import os\ndel os.memfd_create, os.sched_getaffinity\n"
+        (folder / "elsewhere/sitecustomize.py").write_text(lacks)
 
     def ran(self, words, folders=()):
         """A command's status, its output and its error output, where nothing but Debian is on the PATH."""
         path = f"{self.site}/bin:{os.path.dirname(sys.executable)}:/usr/bin:/bin"
         places = ":".join(map(str, (*folders, self.site)))
-        done = subprocess.run(
-            words,
-            env={"PATH": path, "PYTHONPATH": places, "HOME": str(self.folder)},
-            cwd=self.folder,
-            capture_output=True,
-            text=True,
-        )
+        known = {"PATH": path, "PYTHONPATH": places, "HOME": str(self.folder)}
+        known = {"env": known, "cwd": self.folder, "capture_output": True, "text": True}
+        done = subprocess.run(words, **known)
         return done.returncode, done.stdout, done.stderr
 
     def works(self, command, wanted, *folders):
-        status, out, err = self.ran(command.split(), folders)
-        files = wanted if isinstance(wanted, dict) else {}
-        is_right = status == ("explain" in command) and (bool(files) or wanted in out)
-        for name, begins in files.items():
+        status, out, err = self.ran(["fhpgas-tools", *command.split()], folders)
+        name, _, begins = wanted.partition(": ")
+        if begins:
             file = self.folder / name
-            is_right = is_right and file.exists() and file.read_bytes().startswith(begins)
+            is_right = file.exists() and file.read_text("latin-1").startswith(begins)
             file.unlink(missing_ok=True)
-        check(command, is_right, out + err)
+        else:
+            is_right = wanted in out
+        check(command, is_right and status == command.startswith("explain"), out + err)
 
     def refuses(self, words, why, *folders, is_traced=False):
         """A command that must end with one line that says why, which follows a traceback where
@@ -126,19 +115,19 @@ def tried(room, is_built):
         for command, wanted in ALONE + BUILT * is_built:
             room.works(command, wanted, *folders)
         for command, _ in [] if is_built else BUILT:
-            room.refuses(command.split(), "this package has none for Linux on x86_64", *folders)
-    named = {command.split()[1] for command, _ in ALONE + BUILT if "-tools" in command}
-    commands = re.findall(
-        r"^    ([a-z]+(?:-[a-z]+)*) +\S", room.ran(["fhpgas-tools", "--help"])[1], re.M
-    )
+            words = ["fhpgas-tools", *command.split()]
+            room.refuses(words, "this package has none for Linux on x86_64", *folders)
+        status, out, err = room.ran(["python3", "-m", "fhpgas", "--help"], folders)
+        check("python3 -m fhpgas --help", status == 0 and "usage: " in out, out + err)
+    named = {command.split()[0] for command, _ in ALONE + BUILT}
+    commands = re.findall(r"^    ([a-z]+(?:-[a-z]+)*) +\S", out, re.M)
     check("all commands are tried", commands and {*commands} <= named, commands)
     if is_built:
         found = room.ran([sys.executable, "-c", EXAMPLES])
         check("the examples run", found[:2] == (0, "True 0\n"), found)
     for first, is_traced in (("-m", False), ("script.py", True)):
-        room.refuses(
-            [sys.executable, "-c", OLD.format(first)], "needs Python 3.11", is_traced=is_traced
-        )
+        words = [sys.executable, "-c", OLD.format(first)]
+        room.refuses(words, "needs Python 3.11", is_traced=is_traced)
     ast.parse((room.site / "fhpgas/__init__.py").read_text(), feature_version=(3, 7))
 
 
@@ -149,15 +138,10 @@ def declared(wheel, is_built):
         info = names[-1].split("/")[0]
         told = found.read(f"{info}/WHEEL").decode()
         about = found.read(f"{info}/METADATA").decode()
-        newest = max(
-            [2_017]
-            + [
-                int(major) * 1000 + int(minor)
-                for name in names
-                for major, minor in re.findall(rb"GLIBC_(\d)\.(\d+)", found.read(name))
-            ]
-        )
-    tag = f"manylinux_{newest // 1000}_{newest % 1000}_x86_64" if is_built else "any"
+        texts = b"".join(map(found.read, names))
+    versions = [(2, 17), *re.findall(rb"GLIBC_(\d)\.(\d+)", texts)]
+    tag = "manylinux_{}_{}_x86_64".format(*max(tuple(map(int, pair)) for pair in versions))
+    tag = tag if is_built else "any"
     check("the name has the system", wheel.name.endswith(f"-py3-none-{tag}.whl"), wheel.name)
     is_pure = "Root-Is-Purelib: true" in told
     check("so has the wheel", f"Tag: py3-none-{tag}\n" in told and is_pure != is_built, told)
@@ -191,7 +175,7 @@ def main():
                 (wheel,) = (top / "built").glob("*.whl")
             declared(wheel, True)
             tried(Room(top / "built", wheel), True)
-    return needs.told(counts[True], counts[False])
+    return needs.tell_wrong(TRIED)
 
 
 sys.exit(main())

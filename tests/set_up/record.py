@@ -21,18 +21,13 @@ def said_by(*words):
 
 def proofs(log):
     """A line for each crate: its proved functions, and whether this run proved it."""
-    for crate in re.findall(
-        r"^(\w+)(?: staticlib)?:", (needs.ROOT / "crates.txt").read_text(), re.M
-    ):
+    crates = (needs.ROOT / "crates.txt").read_text()
+    proved = re.compile(r"^logic=proved functions=\d+(?: axioms=\d+)?", re.M)
+    for crate in re.findall(r"^(\w+)(?: staticlib)?:", crates, re.M):
         section = re.search(rf"^== {crate}\n(.*?)(?=^== |\Z)", log, re.M | re.S)
-        counts = re.search(
-            r"^logic=proved functions=\d+(?: axioms=\d+)?", section[1] if section else "", re.M
-        )
-        earlier = (
-            "proved in an earlier run on this machine"
-            if f"{crate} is kept" in log
-            else "not proved"
-        )
+        counts = proved.search(section[1] if section else "")
+        is_kept = f"{crate} is kept" in log
+        earlier = "proved in an earlier run on this machine" if is_kept else "not proved"
         yield f"{crate:20} {counts[0] if counts else earlier}"
 
 
@@ -56,9 +51,8 @@ def main():
     print(f"kit       {said_by('rt', 'version')}")
     changed = " and changes" if said_by("git", "status", "--porcelain") else ""
     print(f"commit    {said_by('git', 'rev-parse', 'HEAD')}{changed}")
-    print(
-        f"ended     {datetime.datetime.now(datetime.timezone.utc):%Y-%m-%d %H:%M} UTC, after {sys.argv[3]} seconds on {os.cpu_count()} processors"
-    )
+    now, here = datetime.datetime.now(datetime.timezone.utc), f"{os.cpu_count()} processors"
+    print(f"ended     {now:%Y-%m-%d %H:%M} UTC, after {sys.argv[3]} seconds on {here}")
     print(f"gate      {log.strip().splitlines()[-1]}")
     for title, lines in {
         "Checksums": checksums(),
