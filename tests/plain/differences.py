@@ -31,28 +31,18 @@ TOML = {
     "a sign before 0x": ("seed = +0x10", READ, "not TOML"),
 }
 # Words, and a line of the plain and of the proved program's text.
-TEXTS = {
-    "--help": ("  -h, --help     Print help information", "  -h, --help     Print help"),
-    "run": ("For more information try '--help'", "For more information, try '--help'."),
-    "run --generations x": (
-        "error: Invalid value 'x' for '--generations <G>': invalid digit found in string",
-        "error: invalid value 'x' for '--generations <G>': invalid digit found in string",
-    ),
-    "dance": (
-        "error: The subcommand 'dance' wasn't recognized",
-        "error: unrecognized subcommand 'dance'",
-    ),
-}
+TEXTS = """
+--help |   -h, --help     Print help information |   -h, --help     Print help
+run | For more information try '--help' | For more information, try '--help'.
+run --generations x | error: Invalid value 'x' for WHERE | error: invalid value 'x' for WHERE
+dance | error: The subcommand 'dance' wasn't recognized | error: unrecognized subcommand 'dance'
+"""
+TEXTS = TEXTS.replace("WHERE", "'--generations <G>': invalid digit found in string").strip()
 
 
 def run(program, *words, text=SCENE, **environment):
-    return subprocess.run(
-        [program, *words],
-        input=text.encode(),
-        capture_output=True,
-        env=os.environ | environment,
-        timeout=60,
-    )
+    known = {"env": os.environ | environment, "capture_output": True, "timeout": 60}
+    return subprocess.run([program, *words], input=text.encode(), **known)
 
 
 def ended(program, *words, **more):
@@ -93,14 +83,12 @@ class Differences(unittest.TestCase):
             for program, reason in zip((PLAIN, PROVED), wanted):
                 if program.exists():
                     with self.subTest(name, program=program):
+                        found = ended(program, "check", text=f"{MAP}{line}\n")
                         refused = 1, "", f"scene: {reason}\n"
-                        self.assertEqual(
-                            ended(program, "check", text=f"{MAP}{line}\n"),
-                            (0, READ, "") if reason == READ else refused,
-                        )
+                        self.assertEqual(found, (0, READ, "") if reason == READ else refused)
 
     def test_texts_of_help_and_usage(self):
-        for words, wanted in TEXTS.items():
+        for words, *wanted in (line.split(" | ") for line in TEXTS.split("\n")):
             for program, line in zip((PLAIN, PROVED), wanted):
                 if program.exists():
                     with self.subTest(words, program=program):

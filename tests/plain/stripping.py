@@ -19,53 +19,39 @@ USED = {name for uses in workspace.crates().values() for name in uses}
 OTHERS = USED - workspace.crates().keys()  # crates that are not built here
 PATH = re.compile(rf"(?<![\w:.])(?:std|{'|'.join(sorted(OTHERS))})::(?:\w+::)*(?:\w+|\{{[^}}]*\}})")
 
-# A source, and its Rust by hand without the names that each file gets.
-EXAMPLES = {
-    "clauses": (
-        "fn one(x: u32) -> u32\n    requires { x ≡ 1 }\n    ensures few { f {x} ≤ x' }\n{\n    x\n}\n",
-        "fn one(x: u32) -> u32\n{\n    x\n}\n",
-    ),
-    "ghost items": (
-        "/// Of a proof.\nghost use A.{b, c};\nstruct S {\n    x: u8,\n    ghost fits: { x ≤ 3 },\n}\n",
-        "// Of a proof.\nstruct S {\n    x: u8,\n}\n",
-    ),
-    "attributes": (
-        "#[tactic(auto, using(a [b]))]\n#[derive(Debug, Drop)]\nstruct S;\n#[derive(Drop)]\nstruct T;\n",
-        "#[derive(Debug)]\nstruct S;\nstruct T;\n",
-    ),
-    "indices": (
-        "fn f(a: &[u8; 4], n: &mut [u8]) { n[1..a[0]][a.len()] = g()[2]; for x in [a[3]] {} }\n",
-        "fn f(a: &[u8; 4], n: &mut [u8]) { n[At(1..a[At(0)])][At(a.len())] = g()[At(2)];"
-        " for x in [a[At(3)]] {} }\n",
-    ),
-    "texts and comments": (
-        'fn f() { g("a[1] std::x", b\'[\', r#"b[1]"#) } // a[1]\n',
-        'fn f() { g("a[1] std::x", b\'[\', r#"b[1]"#) } // a[1]\n',
-    ),
-    "paths": (
-        "use std::io;\nuse core::mem::swap;\nfn f() { a.std::b }\n",
-        "use shim::io;\nuse shim::mem::swap;\nfn f() { a.std::b }\n",
-    ),
-    "calls that take memory": (
-        "fn f() { x.to_vec(alloc); x.collect::<Vec<u8>>(rt.alloc()); x.collect(); x.repeat(alloc, 2) }\n",
-        "fn f() { x.to_vec_by(alloc); x.collect_by::<Vec<u8>>(rt.alloc()); x.collect();"
-        " x.repeat_by(alloc, 2) }\n",
-    ),
-    "a test": (
-        "#[test]\nfn t(rt: HostRuntime) -> R { x }\n",
-        "#[test]\nfn t() -> R { let rt = shim::rt::host(); x }\n",
-    ),
-    "main": (
-        "fn main(rt: HostRuntime) -> R {\n}\n",
-        "shim::macros::main!(start -> R); fn start(rt: HostRuntime) -> R {\n}\n",
-    ),
-    "a call for C": (
-        '#[unsafe(no_mangle)]\npub extern "C" fn f(n: u32, a: &[u8], b: &mut [u64]) -> u32 { 0 }\n',
-        '#[unsafe(export_name = "f")] pub unsafe extern "C" fn f_c(n: u32, a: *const u8, a_length: usize,'
-        " b: *mut u64, b_length: usize) -> u32 { unsafe { f(n, shim::c::slice(a, a_length),"
-        " shim::c::slice_mut(b, b_length)) } } pub fn f(n: u32, a: &[u8], b: &mut [u64]) -> u32 { 0 }\n",
-    ),
-}
+# Sources, and below each its Rust by hand, without the names that each file gets.
+EXAMPLES = r"""
+clauses:
+  fn one(x: u32) -> u32\n    requires { x ≡ 1 }\n    ensures few { f {x} ≤ x' }\n{\n    x\n}
+  fn one(x: u32) -> u32\n{\n    x\n}
+ghost items:
+  /// Of a proof.\nghost use A.{b, c};\nstruct S {\n    x: u8,\n    ghost fits: { x ≤ 3 },\n}
+  // Of a proof.\nstruct S {\n    x: u8,\n}
+attributes:
+  #[tactic(auto, using(a [b]))]\n#[derive(Debug, Drop)]\nstruct S;\n#[derive(Drop)]\nstruct T;
+  #[derive(Debug)]\nstruct S;\nstruct T;
+indices:
+  fn f(a: &[u8; 4], n: &mut [u8]) { n[1..a[0]][a.len()] = g()[2]; for x in [a[3]] {} }
+  fn f(a: &[u8; 4], n: &mut [u8]) { n[At(1..a[At(0)])][At(a.len())] = g()[At(2)]; for x in [a[At(3)]] {} }
+texts and comments:
+  fn f() { g("a[1] std::x", b'[', r#"b[1]"#) } // a[1]
+  fn f() { g("a[1] std::x", b'[', r#"b[1]"#) } // a[1]
+paths:
+  use std::io;\nuse core::mem::swap;\nfn f() { a.std::b }
+  use shim::io;\nuse shim::mem::swap;\nfn f() { a.std::b }
+calls that take memory:
+  fn f() { x.to_vec(alloc); x.collect::<Vec<u8>>(rt.alloc()); x.collect(); x.repeat(alloc, 2) }
+  fn f() { x.to_vec_by(alloc); x.collect_by::<Vec<u8>>(rt.alloc()); x.collect(); x.repeat_by(alloc, 2) }
+a test:
+  #[test]\nfn t(rt: HostRuntime) -> R { x }
+  #[test]\nfn t() -> R { let rt = shim::rt::host(); x }
+main:
+  fn main(rt: HostRuntime) -> R {\n}
+  shim::macros::main!(start -> R); fn start(rt: HostRuntime) -> R {\n}
+a call for C:
+  #[unsafe(no_mangle)]\npub extern "C" fn f(n: u32, a: &[u8], b: &mut [u64]) -> u32 { 0 }
+  #[unsafe(export_name = "f")] pub unsafe extern "C" fn f_c(n: u32, a: *const u8, a_length: usize, b: *mut u64, b_length: usize) -> u32 { unsafe { f(n, shim::c::slice(a, a_length), shim::c::slice_mut(b, b_length)) } } pub fn f(n: u32, a: &[u8], b: &mut [u64]) -> u32 { 0 }
+"""
 
 
 def squeezed(text):
@@ -89,8 +75,10 @@ def names():
 
 class Strip(unittest.TestCase):
     def test_examples(self):
-        for name, (source, wanted) in EXAMPLES.items():
+        lines = iter(EXAMPLES.strip().split("\n"))
+        for name, *texts in zip(lines, lines, lines, strict=True):
             with self.subTest(name):
+                source, wanted = (text.strip().replace(r"\n", "\n") + "\n" for text in texts)
                 self.assertEqual(squeezed(strip.plain(source)), squeezed(wanted))
 
     def test_lines_stay(self):
