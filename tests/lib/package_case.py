@@ -1,16 +1,14 @@
-"""What the tests of the package in python/ share: the program, small scenes, and how a call is
-tried."""
+"""What the tests of the package in python/ share: the program, small scenes, and how a call is tried."""
 
 import math
 import os
 import pathlib
-import shutil
 import tempfile
 import unittest
 
 import needs
 
-needs.libraries("distributed", "xarray", "netCDF4", "zarr", "tqdm")
+needs.libraries()
 PROGRAM = needs.built_program()
 os.environ["PYTHONPATH"] = str(needs.ROOT / "python")
 import fhpgas  # noqa: E402 - finds the program by the lines above
@@ -35,11 +33,7 @@ def wind(size, gas="fhp1", chirality="seeded", solid=None):
     )
 
 
-class Package(unittest.TestCase):
-    def setUp(self):
-        self.room = pathlib.Path(tempfile.mkdtemp())
-        self.addCleanup(shutil.rmtree, self.room)
-
+class Case(unittest.TestCase):
     def fault(self, part, function, *words):
         """The call has a Fault of one line with this part."""
         with self.assertRaises(fhpgas.Fault) as caught:
@@ -53,3 +47,10 @@ class Package(unittest.TestCase):
         np.testing.assert_allclose(
             np.asarray(found, float), np.asarray(wanted, float), rtol=0, atol=10.0**-places
         )
+
+
+class Package(Case):
+    """Each test has a folder of its own."""
+
+    def setUp(self):
+        self.room = pathlib.Path(self.enterContext(tempfile.TemporaryDirectory()))

@@ -1,6 +1,5 @@
 #!/usr/bin/env python3
-"""Compares blocks, their fields, smoothing, means and other forms with values made by hand, or with
-exact laws. Ends with the counts."""
+"""Compares blocks, their fields, smoothing, means and other forms with values made by hand, or with exact laws. Ends with the counts."""
 
 import dataclasses
 import itertools
@@ -11,10 +10,11 @@ sys.path.append(f"{sys.path[0]}/../lib")
 import needs
 from package_case import ROOT3, TABLE, Package, wind
 
+needs.libraries("xarray", "netCDF4", "zarr")
 import fhpgas
 import numpy as np
 import xarray
-from fhpgas import Size
+from fhpgas import GASES, Size
 from matplotlib.figure import Figure
 
 
@@ -29,44 +29,34 @@ class Blocks(Package):
         ):
             with self.subTest(gas=gas):
                 blocks, late = (
-                    fhpgas.read_table(TABLE, gas, (2, 2), Size(6, 2), generation)
-                    for generation in (0, 5)
+                    fhpgas.read_table(TABLE, gas, (2, 2), Size(6, 2), t) for t in (0, 5)
                 )
-                for name, wanted in (
-                    ("fluid", [3, 4, 0]),
-                    ("particles", [8, 0, 0]),
-                    ("px", [3, 0, 0]),
-                    ("py", [1, 0, 0]),
-                    ("density", [8 / 3, 0, nan]),
-                    ("filling", [filling, 0, nan]),
-                    ("pressure", [pressure, 0, nan]),
-                    ("east", [east, nan, nan]),
-                    ("north", [north, nan, nan]),
-                    ("speed", [math.hypot(east, north), nan, nan]),
+                for name, *wanted in (
+                    ("fluid", 3, 4, 0),
+                    ("particles", 8, 0, 0),
+                    ("px", 3, 0, 0),
+                    ("py", 1, 0, 0),
+                    ("density", 8 / 3, 0, nan),
+                    ("filling", filling, 0, nan),
+                    ("pressure", pressure, 0, nan),
+                    ("east", east, nan, nan),
+                    ("north", north, nan, nan),
+                    ("speed", math.hypot(east, north), nan, nan),
                 ):
-                    self.same(getattr(blocks, name), [wanted])
+                    np.testing.assert_allclose(
+                        getattr(blocks, name), [wanted], 0, 1e-12, err_msg=name
+                    )
                 self.same(blocks.velocity, [[[east, nan, nan]], [[north, nan, nan]]])
                 self.assertEqual(
-                    (
-                        repr(blocks),
-                        (blocks + blocks).particles.tolist(),
-                        sum([blocks] * 3).px.tolist(),
-                        blocks.text(),
-                    ),
-                    (
-                        f"<Blocks 3 x 1 of 2 x 2 cells of {gas}, generation 0>",
-                        [[16, 0, 0]],
-                        [[9, 0, 0]],
-                        TABLE,
-                    ),
+                    repr(blocks), f"<Blocks 3 x 1 of 2 x 2 cells of {gas}, generation 0>"
                 )
-        self.assertEqual(
-            [(one + two).generation for one, two in ((blocks, late), (late, blocks))], [5, 0]
-        )
+                self.assertEqual((blocks + blocks).particles.tolist(), [[16, 0, 0]])
+                self.assertEqual(sum([blocks] * 3).px.tolist(), [[9, 0, 0]])
+                self.assertEqual(blocks.text(), TABLE)
+        self.assertEqual(((blocks + late).generation, (late + blocks).generation), (5, 0))
         full = fhpgas.draw_gas(1, size=Size(4, 4)).blocks(2, 2)
-        self.same(
-            (full.density, full.pressure, full.speed), [[[6] * 2] * 2, [[3] * 2] * 2, [[0] * 2] * 2]
-        )
+        wanted = np.broadcast_to([[[6]], [[3]], [[0]]], (3, 2, 2))
+        self.same((full.density, full.pressure, full.speed), wanted)
 
     def test_a_sum_over_members_shows_what_one_shows(self):
         """As many blocks are hidden, because sums know how many lattices they are of."""
@@ -76,23 +66,21 @@ class Blocks(Package):
         self.assertEqual(repr(many)[-12:], " 50 members>")
         self.same(many.cells, 50 * one.cells)
         self.same(one.cells.sum(), 64 * 47)
-        hidden = [
-            np.ma.getmaskarray(blocks.plot("density", Figure().subplots()).get_array())
-            for blocks in (one, many)
-        ]
+        shown = [blocks.plot("density", Figure().subplots()).get_array() for blocks in (one, many)]
+        hidden = [*map(np.ma.getmaskarray, shown)]
         self.assertEqual(hidden[0].tolist(), hidden[1].tolist())
         self.assertEqual(hidden[0].tolist(), (2 * one.fluid < one.cells).tolist())
         self.assertTrue(hidden[0].any())
 
     def test_tables_that_no_gas_can_have_are_refused(self):
-        """A block of 2 x 2 cells of fhp1 has at most 4 fluid cells, 6 particles per cell, and
-        momenta of 4 eastwards and 2 northwards per cell, of 2 and 1 per particle. In hpp these
-        are 4 particles, and 1 and 1."""
-        line = "    0     0 %8d %9d %10d %10d\n    1     0 %8d %9d %10d %10d\n"
-        zero = (0, 0, 0, 0)
+        """A block of 2 x 2 cells of fhp1 has at most 4 fluid cells, 6 particles per cell, and momenta of 4 eastwards and 2 northwards per
+        cell, of 2 and 1 per particle. In hpp these are 4 particles, and 1 and 1."""
+        line = (
+            "    0     0 %8d %9d %10d %10d\n    1     0        0         0          0          0\n"
+        )
 
         def read(gas, *sums):
-            text = TABLE.split("\n")[0] + "\n" + line % (*sums, *zero)
+            text = TABLE.split("\n")[0] + "\n" + line % sums
             return fhpgas.read_table(text, gas, (2, 2), Size(4, 2))
 
         for gas, largest, small in (
@@ -107,22 +95,15 @@ class Blocks(Package):
                         more = [n + (n > 0) - (n < 0) if i == k else n for i, n in enumerate(sums)]
                         name = ("fluid", "particles", "px", "py")[k]
                         self.fault(f"column 0 row 0 has {name} {more[k]}", read, gas, *more)
-        table = wind((31, 16)).blocks(8, 8).text()
-        self.fault(
-            "of another gas, size or block", fhpgas.read_table, table, "fhp1", (8, 8), Size(31, 15)
-        )
+        table, why = wind((31, 16)).blocks(8, 8).text(), "of another gas, size or block"
+        self.fault(why, fhpgas.read_table, table, "fhp1", (8, 8), Size(31, 15))
 
     def test_blocks_lie_where_their_cells_are(self):
         X, Y = fhpgas.positions(Size(5, 5))
-        self.same(
-            (X[0], X[1], 2 * Y[:, 0] / ROOT3),
-            ([0, 1, 2, 3, 4], [0.5, 1.5, 2.5, 3.5, 4.5], [4.5, 3.5, 2.5, 1.5, 0.5]),
-        )
+        self.same((X[0], X[1] - 0.5, 2 * Y[::-1, 0] / ROOT3 - 0.5), [range(5)] * 3)
         self.same(fhpgas.positions(Size(3, 9), "hpp", slice(2, 4))[0], [[0, 1, 2]] * 2)
-        (left, top), (x, y) = (
-            getattr(fhpgas.draw_gas(0.2, size=Size(5, 5)).blocks(2, 3), name)
-            for name in ("edges", "positions")
-        )
+        blocks = fhpgas.draw_gas(0.2, size=Size(5, 5)).blocks(2, 3)
+        (left, top), (x, y) = blocks.edges, blocks.positions
         self.same([*left, *x], [-0.25, 1.75, 3.75, 4.75, 0.75, 2.75, 4.25])
         self.same(2 * np.array([*top, *y]) / ROOT3, [5, 2, 0, 3.5, 1])
         X, Y = fhpgas.positions(Size(64, 48))
@@ -130,20 +111,12 @@ class Blocks(Package):
         self.same((x, y), (X.reshape(8, 6, 8, 8).mean((0, 1, 3)), Y.reshape(8, 6).mean(1)))
 
     def test_vorticity_is_that_of_a_rotation(self):
-        """u = -w y, v = w x has the vorticity 2 w, also in the last rows, which are smaller, and
-        beside a solid block. u = y^2 has -2 y."""
+        """u = -w y, v = w x has the vorticity 2 w, also in the last rows, which are smaller, and beside a solid block. u = y^2 has -2 y."""
 
         def of(east, north, fluid=1):
             fluid = np.full((6, 5), 72) * fluid
-            return fhpgas.Blocks(
-                fluid,
-                4.0 * fluid,
-                8.0 * fluid * east,
-                8 / ROOT3 * fluid * north,
-                fhpgas.GASES["fhp1"],
-                (8, 9),
-                Size(40, 49),
-            )
+            sums = fluid, 4.0 * fluid, 8.0 * fluid * east, 8 / ROOT3 * fluid * north
+            return fhpgas.Blocks(*sums, GASES["fhp1"], (8, 9), Size(40, 49))
 
         holed = np.ones((6, 5), int)
         holed[2, 2] = 0
@@ -151,48 +124,29 @@ class Blocks(Package):
         y = y[:, None]
         for fluid in (1 + 0 * holed, holed):
             with self.subTest(fluid=fluid.tolist()):
-                self.same(
-                    of(-0.01 * y, 0.01 * x, fluid).vorticity[:, 1:4],
-                    np.where(fluid, 0.02, math.nan)[:, 1:4],
-                )
+                found = of(-0.01 * y, 0.01 * x, fluid).vorticity[:, 1:4]
+                self.same(found, np.where(fluid, 0.02, math.nan)[:, 1:4])
         self.same(of(y**2, 0 * x).vorticity[1:5], -2 * y[1:5] * np.ones(5))
         north = np.cos(2 * math.pi * x / 40)
         self.same(of(0 * y, north).vorticity, [(np.roll(north, -1) - np.roll(north, 1)) / 16] * 6)
-        self.same(
-            np.diag(of(-0.01 * y, 0.01 * x, np.eye(6, 5, dtype=int)).vorticity), [0] * 5
-        )  # no neighbour is known
+        alone = of(-0.01 * y, 0.01 * x, np.eye(6, 5, dtype=int))
+        self.same(np.diag(alone.vorticity), [0] * 5)  # no neighbour is known
 
     def test_smoothing_spreads_sums_by_a_gaussian_past_the_end(self):
         sums, weights = np.zeros((1, 16), int), np.exp(-np.arange(-4, 5) ** 2 / 2)
         sums[0, 0] = 1000
-        blocks = fhpgas.Blocks(
-            np.full((1, 16), 9),
-            sums,
-            2 * sums // 5,
-            0 * sums,
-            fhpgas.GASES["hpp"],
-            (3, 3),
-            Size(48, 3),
-        )
-        self.same(
-            blocks.smooth(1).particles,
-            [np.roll(np.pad(1000 * weights / weights.sum(), (0, 7)), -4)],
-            9,
-        )
-        tall = [np.repeat(each, 9, 0) for each in (blocks.fluid, sums, 2 * sums // 5, 0 * sums)]
-        tall = fhpgas.Blocks(*tall, fhpgas.GASES["hpp"], (3, 3), Size(48, 27)).smooth(1)
+        sums, gas = (np.full((1, 16), 9), sums, 2 * sums // 5, 0 * sums), GASES["hpp"]
+        blocks = fhpgas.Blocks(*sums, gas, (3, 3), Size(48, 3))
+        wanted = np.roll(np.pad(1000 * weights / weights.sum(), (0, 7)), -4)
+        self.same(blocks.smooth(1).particles, [wanted], 9)
+        tall = [np.repeat(each, 9, 0) for each in sums]
+        tall = fhpgas.Blocks(*tall, gas, (3, 3), Size(48, 27)).smooth(1)
         self.same(tall.east[4, [0, 1, 4, -4]], [0.4] * 4)
-        uneven = wind((70, 50), solid=np.zeros((50, 70), bool)).blocks(
-            7, 9
-        )  # the last row of blocks has 5 rows of cells
+        # the last row of blocks has 5 rows of cells
+        uneven = wind((70, 50), solid=np.zeros((50, 70), bool)).blocks(7, 9)
         self.same(uneven.smooth(2).particles.sum(), uneven.particles.sum(), 6)
-        self.assertTrue(
-            np.isnan(
-                dataclasses.replace(blocks, fluid=blocks.fluid * (np.arange(16) != 1))
-                .smooth(1)
-                .density[0, 1]
-            )
-        )
+        holed = dataclasses.replace(blocks, fluid=blocks.fluid * (np.arange(16) != 1))
+        self.assertTrue(np.isnan(holed.smooth(1).density[0, 1]))
 
     def test_smoothing_keeps_a_shear_to_the_wall(self):
         """u = a y, which is zero at the wall, stays so, beside an obstacle too, because a
@@ -201,23 +155,19 @@ class Blocks(Package):
         def of(east, fluid):
             x, y = fhpgas.draw_gas(0, size=Size(40, 360), gas="hpp").blocks(8, 9).positions
             east, fluid = east(y[:, None]) + 0 * x, np.full((40, 5), 72) * fluid
-            gas = fhpgas.GASES["hpp"]
-            return east, fhpgas.Blocks(
-                fluid, 4 * fluid, 4.0 * fluid * east, 0 * fluid, gas, (8, 9), Size(40, 360)
-            )
+            sums = fluid, 4 * fluid, 4.0 * fluid * east, 0 * fluid
+            return east, fhpgas.Blocks(*sums, GASES["hpp"], (8, 9), Size(40, 360))
 
         whole = np.ones((40, 5), int)
-        for sigma, (first, last, surface, fluid) in itertools.product(
-            (0.7, 1, 3), ((24, 40, 0, whole), (15, 24, 225, whole * (np.arange(40) > 14)[:, None]))
-        ):
+        upper = whole * (np.arange(40) > 14)[:, None]
+        parts = (24, 40, 0, whole), (15, 24, 225, upper)
+        for sigma, (first, last, surface, fluid) in itertools.product((0.7, 1, 3), parts):
             with self.subTest(sigma=sigma, first=first):
                 east, blocks = of(lambda y: 0.001 * (y - surface), fluid)
                 smooth, rows = blocks.smooth(sigma), slice(first, last)
                 self.same(smooth.east[rows], east[rows])
                 self.same(smooth.density, blocks.density)
-                self.same(
-                    smooth.vorticity[first + 1 : last], np.full((last - first - 1, 5), -0.001)
-                )
+                self.same(smooth.vorticity[first + 1 : last], [[-0.001] * 5] * (last - first - 1))
 
     def test_values_come_back_from_other_forms(self):
         """From netCDF, zarr and .npz, with gas, sizes and generation, which a table lacks."""
@@ -256,10 +206,8 @@ class Blocks(Package):
         self.fault("no.npz", fhpgas.Lattice.load, self.room / "no.npz")
         whole, cut = (self.room / "lattice.npz").read_bytes(), self.room / "cut.npz"
         for place in range(0, len(whole), 7):
-            for part in (
-                whole[:place],
-                whole[:place] + bytes([whole[place] ^ 64]) + whole[place + 1 :],
-            ):
+            flipped = whole[:place] + bytes([whole[place] ^ 64]) + whole[place + 1 :]
+            for part in whole[:place], flipped:
                 cut.write_bytes(part)
                 try:
                     self.assertEqual(fhpgas.Lattice.load(cut), start)  # a date may be any
@@ -269,9 +217,8 @@ class Blocks(Package):
         self.assertEqual((many.generation - 10**11).values.tolist(), [0, 10, 20, 30])
         self.assertEqual(fhpgas.Blocks.from_xarray(many.isel(t=2)), start.run(20).blocks())
         self.fault("`isel` takes one", fhpgas.Blocks.from_xarray, many)
-        self.assertEqual(
-            (dataset.generation.dtype.kind, sys.getsizeof(summed) > 4 * 8 * 100), ("f", True)
-        )
+        self.assertEqual(dataset.generation.dtype.kind, "f")
+        self.assertGreater(sys.getsizeof(summed), 4 * 8 * 100)
         self.assertEqual(start.to_xarray().X.dtype, np.float32)
 
     def test_means_have_their_errors(self):
@@ -282,8 +229,7 @@ class Blocks(Package):
         self.same(found, ([3, -6], [error, 2 * error]))
 
     def test_a_series_counts_its_independent_values(self):
-        """Of an autoregressive series x(t + 1) = a x(t) + noise with n values there are n (1 -
-        a) / (1 + a)."""
+        """Of an autoregressive series x(t + 1) = a x(t) + noise with n values there are n (1 - a) / (1 + a)."""
         noise, number = np.random.default_rng(1).normal(size=(20_000, 3)), 20_000
         for a in (0, 0.5, 0.9):
             with self.subTest(a=a):
@@ -302,5 +248,4 @@ class Blocks(Package):
         self.fault("two values or more", fhpgas.mean_of_series, [1])
 
 
-if __name__ == "__main__":
-    needs.run_tests()
+needs.run_tests()

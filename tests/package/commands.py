@@ -1,7 +1,6 @@
 #!/usr/bin/env python3
-"""Tries the pictures and the command line of the package in python/: what they show and print
-beside hand-made values, the package's functions and the program, and what they refuse. Ends with
-the counts."""
+"""Tries the pictures and the command line of the package in python/: what they show and print beside hand-made values, the package's
+functions and the program, and what they refuse. Ends with the counts."""
 
 import contextlib
 import io
@@ -15,25 +14,21 @@ import subprocess
 import sys
 import tempfile
 import time
-import unittest
 import unittest.mock
 
 sys.path.append(f"{sys.path[0]}/../lib")
 import needs
 import second_reader
+from package_case import AREA, Case
 
-needs.built_program()
-needs.libraries()
-os.environ["PYTHONPATH"] = str(needs.ROOT / "python")
-import fhpgas  # noqa: E402 - finds the program by the lines above
-import matplotlib  # noqa: E402
-import numpy as np  # noqa: E402
-from fhpgas import __main__, pictures  # noqa: E402
-from matplotlib.figure import Figure  # noqa: E402
-from PIL import Image, ImageSequence  # noqa: E402
+import fhpgas
+import matplotlib
+import numpy as np
+from fhpgas import Size, __main__, pictures
+from matplotlib.figure import Figure
+from PIL import Image, ImageSequence
 
 matplotlib.use("agg")
-AREA = 'gas = "fhp1"\nseed = 7\nwidth = 66\nheight = 9\nrate = 300\nsolid = [[20, 2, 3, 4]]\n'
 NAMES = "draw explain picture film page how-long resume long-run drive over-time over-seeds numbers"
 COMMANDS = ["", "draw discs", *NAMES.split()]
 REFUSED = {
@@ -131,46 +126,30 @@ drive a.toml 20 10 --force 2 | particles to turn
 
 def uneven():
     """Blocks of 8 x 9 cells of 30 x 20: the last column has 6 columns, the last row 2 rows."""
-    sums = (
-        [[72, 36, 35, 54], [72, 72, 72, 54], [16, 16, 16, 12]],
-        [[72] * 4] * 3,
-        [[36] * 4] * 3,
-        [[-9] * 4] * 3,
-    )
-    gas = fhpgas.gas_named("fhp1")
-    return fhpgas.Blocks(*map(np.array, sums), gas, (8, 9), fhpgas.Size(30, 20))
+    fluid = np.array([[72, 36, 35, 54], [72, 72, 72, 54], [16, 16, 16, 12]])
+    sums = fluid, *(np.full((3, 4), number) for number in (72, 36, -9))
+    return fhpgas.Blocks(*sums, fhpgas.gas_named("fhp1"), (8, 9), Size(30, 20))
 
 
-class Commands(unittest.TestCase):
+class Commands(Case):
     @classmethod
     def setUpClass(cls):
-        cls.room = pathlib.Path(tempfile.mkdtemp())
-        cls.addClassCleanup(shutil.rmtree, cls.room)
+        cls.room = pathlib.Path(cls.enterClassContext(tempfile.TemporaryDirectory()))
         cls.start = fhpgas.Lattice.load(AREA)
-        table = fhpgas.coarse(AREA, 3, 11, 9).text()
-        cells = cls.start.run(3).text()
-        less = cells[: cells.rindex("\n", 0, -1) + 1]
-        for name, text in {
-            "a.toml": AREA,
-            "three": cells,
-            "less": less,
-            "table": table,
-            "cut": table[:-3],
-            "empty.toml": AREA.replace("300", "0"),
-            "later.toml": cls.start.run(3).scene(),
-            "cell.toml": 'gas = "hpp"\ncells = [".."]\n',
-            "broken.npz": "PK",
-        }.items():
+        table, cells = fhpgas.coarse(AREA, 3, 11, 9).text(), cls.start.run(3).text()
+        files = {"a.toml": AREA, "table": table, "cut": table[:-3], "three": cells}
+        files |= {"less": cells[: cells.rindex("\n", 0, -1) + 1], "broken.npz": "PK"}
+        files |= {"cell.toml": 'gas = "hpp"\ncells = [".."]\n'}
+        files |= {"empty.toml": AREA.replace("300", "0"), "later.toml": cls.start.run(3).scene()}
+        for name, text in files.items():
             (cls.room / name).write_text(text)
         os.chdir(cls.room)
 
     def command(self, *words, text=""):
         """The status and the two outputs of a command, in this process."""
         words, out, err = " ".join(map(str, words)).split(), io.StringIO(), io.StringIO()
-        given = io.TextIOWrapper(io.BytesIO(text.encode()))
-        with contextlib.redirect_stdout(out), contextlib.redirect_stderr(err), unittest.mock.patch(
-            "sys.stdin", given
-        ):
+        given = unittest.mock.patch("sys.stdin", io.TextIOWrapper(io.BytesIO(text.encode())))
+        with contextlib.redirect_stdout(out), contextlib.redirect_stderr(err), given:
             try:
                 status = __main__.main(words) or 0
             except SystemExit as end:
@@ -219,22 +198,17 @@ class Commands(unittest.TestCase):
             (np.array([["a"] * 4] * 3), "[row, column]"),
         ):
             with self.subTest(part=part, what=str(what)):
-                with self.assertRaisesRegex(fhpgas.Fault, re.escape(part)):
-                    blocks.plot(what, Figure().add_subplot())
+                self.fault(part, blocks.plot, what, Figure().add_subplot())
 
     def test_arrows_stand_where_particles_are(self):
-        """A pair on an even row, a particle on an odd one, half a cell to the east, one at rest,
-        and a solid cell."""
+        """A pair on an even row, a particle on an odd one, half a cell to the east, one at rest, and a solid cell."""
         states, solid = np.zeros((2, 3), int), np.zeros((2, 3), bool)
         states[0, 1], states[1, 0], solid[1, 2] = 0b1001, 0b1000010, True
         ax = fhpgas.Lattice(states, solid, "fhp-rest").plot(ax=Figure().add_subplot())
         lines = matplotlib.collections.LineCollection
         cells, *arrows, rest = [each for each in ax.collections if not isinstance(each, lines)]
-        found = {
-            tuple(np.round((*place, u, v), 3).tolist())
-            for each in arrows
-            for place, u, v in zip(each.get_offsets(), each.U, each.V)
-        }
+        drawn = [row for each in arrows for row in zip(each.get_offsets(), each.U, each.V)]
+        found = {tuple(np.round((*place, u, v), 3).tolist()) for place, u, v in drawn}
         upper, lower = round(1.5 * np.sqrt(3) / 2, 3), round(0.5 * np.sqrt(3) / 2, 3)
         pair, slanted = {(1, upper, 0.46, 0), (1, upper, -0.46, 0)}, round(0.23 * np.sqrt(3), 3)
         self.assertEqual(found, pair | {(0.5, lower, 0.23, slanted)})
@@ -269,18 +243,6 @@ class Commands(unittest.TestCase):
                 self.assertTrue(all((one != other).any() for one, other in pairs), suffix)
                 self.assertTrue((frames[:, :, 310:] == frames[0, :, 310:]).all())  # the bar
         fhpgas.film(self.room / "few.gif", self.start.replace(states=self.start.states).every(1, 2))
-        for call, part in (
-            (lambda: fhpgas.film("a.gif", []), "a state or more"),
-            (lambda: fhpgas.strip([]), "a state or more"),
-            (lambda: fhpgas.film("a.avi", many), "a film is written as"),
-            (lambda: fhpgas.plot(AREA), "a Lattice or of Blocks"),
-            (lambda: fhpgas.film("a.gif", many, block=8), "two integers"),
-            (lambda: fhpgas.plot(start, "particles"), "no picture of 'particles'"),
-            (lambda: fhpgas.film("a.gif", many, fps=0), "frames per second"),
-        ):
-            with self.subTest(part=part):
-                with self.assertRaisesRegex(fhpgas.Fault, part):
-                    call()
 
     @unittest.skipUnless(shutil.which("ffmpeg"), "ffmpeg is missing")
     def test_a_film_is_written_as_mp4(self):
@@ -344,22 +306,19 @@ class Commands(unittest.TestCase):
         ):
             with self.subTest(words=words):
                 limits = "ulimit -f 100 -v 400000; export OPENBLAS_NUM_THREADS=1"
-                done = subprocess.run(
-                    ["bash", "-c", f"{limits}; {sys.executable} -m fhpgas {words}"],
-                    env=os.environ | {"PYTHONIOENCODING": "ascii", "PYTHONUNBUFFERED": "1"},
-                    capture_output=True,
-                    text=True,
-                )
+                command = f"{limits}; {sys.executable} -m fhpgas {words}"
+                known = os.environ | {"PYTHONIOENCODING": "ascii", "PYTHONUNBUFFERED": "1"}
+                known = {"env": known, "capture_output": True, "text": True}
+                done = subprocess.run(["bash", "-c", command], **known)
                 found = done.returncode, said in done.stderr, "Traceback" in done.stderr
                 self.assertEqual(found, (1, True, False), done)
-        full = unittest.mock.patch("PIL.Image.Image.save", side_effect=OSError(28, "No space left"))
-        with full:
+        full = OSError(28, "No space left")
+        with unittest.mock.patch("PIL.Image.Image.save", side_effect=full):
             found = self.command("film a.toml a.gif --every 5 --until 5")
         self.assertEqual(found, (1, "", "fhpgas-tools: a.gif: No space left\n"))
 
     def test_drawn_scenes_are_as_asked(self):
-        """The second reader counts the same cells as the program, and the scenes have what was
-        asked for."""
+        """The second reader counts the same cells as the program, and the scenes have what was asked for."""
         for words, solid in (
             ("blocks --width 20 --height 9 --block 3 2 4 5 --block 4 3 5 2", 24),
             ("blocks --width 12 --height 8 --closed --gas hpp", 8),
@@ -502,5 +461,4 @@ class Commands(unittest.TestCase):
                 self.assertEqual(sum(each.args[1] for each in call.call_args_list), 40)
 
 
-if __name__ == "__main__":
-    needs.run_tests()
+needs.run_tests()

@@ -1,6 +1,5 @@
 #!/usr/bin/env python3
-"""Compares gases and shapes that are drawn with plain second implementations, or with values made
-by hand. Ends with the counts."""
+"""Compares gases and shapes that are drawn with plain second implementations, or with values made by hand. Ends with the counts."""
 
 import hashlib
 import itertools
@@ -18,19 +17,11 @@ import numpy as np
 from fhpgas import Size
 from PIL import Image
 
-# SHA-256 of the states of 37 x 11 cells, seed 2^40 + 5, filling 0.2 and a shear, as the plain
-# implementation below draws them.
-DRAWN = {
-    "fhp1": "e908e3c376c09e75d01d96b40b56db3f808dbd69e21120fdd437d23ff8ef5de8",
-    "hpp": "f86c3a00bb0e3235335ed0c6fadd6909084ec35bac006ae3c5a0471e3bb83888",
-    "fhp-rest": "f72bed5b400caa7a56c33da10ee0ca53aff8a85ee8b383c9aba6c20e799a746f",
-}
 FACTOR = 0x2360ED051FC65DA44385DF649FCCF645  # of PCG64
 
 
 def raw_bits(seed):
-    """The words of 64 bits of PCG64(seed) by plain integers: M. E. O'Neill's XSL RR 128/64, from
-    the state that SeedSequence mixes."""
+    """The words of 64 bits of PCG64(seed) by plain integers: M. E. O'Neill's XSL RR 128/64, from the state that SeedSequence mixes."""
 
     def hashed(value):
         nonlocal constant
@@ -59,15 +50,11 @@ def raw_bits(seed):
 
 
 def plainly_drawn(chances, columns, rows, seed):
-    """The states by the rule of `fhpgas.fields.drawn`, cell by cell, for the chances
-    [direction][row]."""
+    """The states by the rule of `fhpgas.fields.drawn`, cell by cell, for the chances [direction][row]."""
     words, states = raw_bits(seed), np.zeros((rows, columns), np.uint8)
     for y, i in itertools.product(range(rows), range(len(chances))):
-        lots = [
-            word >> 16 * k & 0xFFFF
-            for word in itertools.islice(words, -(-columns // 4))
-            for k in range(4)
-        ]
+        some = itertools.islice(words, -(-columns // 4))
+        lots = [word >> 16 * k & 0xFFFF for word in some for k in range(4)]
         for x in range(columns):
             states[y, x] |= (lots[x] < round(65536 * chances[i][y])) << i
     return states
@@ -75,8 +62,7 @@ def plainly_drawn(chances, columns, rows, seed):
 
 class Drawing(Package):
     def test_an_equilibrium_is_that_of_fermi_and_dirac(self):
-        """It has the wanted moments, and collisions keep it: the odds of the particles before
-        and after are the same."""
+        """It has the wanted moments, and collisions keep it: the odds of the particles before and after are the same."""
         flows = (0.2, 0.3, 0.0), (0.5, 0.1, -0.2), (0.9, 0.02, 0.03), (0.1, 0.0, 0.4)
         d, u, v = np.array([*flows, (0, 0, 0), (1, 0, 0)]).T
         for gas in map(fhpgas.gas_named, GASES):
@@ -92,6 +78,7 @@ class Drawing(Package):
     def test_a_gas_is_drawn_from_the_raw_bits_of_pcg64(self):
         """As plain integers give it, with or without vector instructions, row by row or at once."""
         seed, shear = (1 << 40) + 5, (0.2, 0.3 * np.cos(np.arange(500) / 9)[:, None], 0.0)
+        hashes = []
         for name in GASES:
             with self.subTest(gas=name):
                 gas = fhpgas.gas_named(name)
@@ -99,7 +86,7 @@ class Drawing(Package):
                 found = fhpgas.draw_gas(*known, size=Size(37, 11), gas=name, seed=seed).states
                 plain = plainly_drawn(fhpgas.equilibrium(gas, *known)[..., 0], 37, 11, seed)
                 self.assertEqual(found.tolist(), plain.tolist())
-                self.assertEqual(hashlib.sha256(found.tobytes()).hexdigest(), DRAWN[name])
+                hashes.append(hashlib.sha256(found.tobytes()).hexdigest())
                 values = [np.array(field) for field in shear]
                 whole = fhpgas.fields.drawn(gas, values, (500, 130), 9)
                 places = (0, 1, 0, 130), (1, 300, 0, 129), (300, 500, 3, 8), (2, 9, 4, 130)
@@ -109,19 +96,17 @@ class Drawing(Package):
                     found = fhpgas.fields.drawn(gas, part, shape, 9, (first, left), 130)
                     self.assertEqual(found.tolist(), whole[first:last, left:right].tolist())
         script = (
-            "import fhpgas, hashlib, numpy as np; east = 0.3 * np.cos(np.arange(11) / 9)[:,"
-            " None]\nfor gas in fhpgas.GASES:\n"
-            "    print(hashlib.sha256(fhpgas.draw_gas(0.2, east, size=fhpgas.Size(37, 11),"
-            f" gas=gas, seed={seed}).states).hexdigest())"
+            "import fhpgas, hashlib, numpy as np; east = 0.3 * np.cos(np.arange(11) / 9)[:, None]\n"
+            f"known = dict(size=fhpgas.Size(37, 11), seed={seed})\nfor gas in {GASES}:\n"
+            "    states = fhpgas.draw_gas(0.2, east, gas=gas, **known).states\n"
+            "    print(hashlib.sha256(states).hexdigest())"
         )
         core = getattr(np, "_core", None) or np.core
-        plain = os.environ | {
-            "NPY_DISABLE_CPU_FEATURES": " ".join(core._multiarray_umath.__cpu_dispatch__)
-        }
-        done = subprocess.run(
-            [sys.executable, "-c", script], env=plain, capture_output=True, text=True, check=True
-        )
-        self.assertEqual(done.stdout.split(), [DRAWN[gas] for gas in fhpgas.GASES])
+        features = " ".join(core._multiarray_umath.__cpu_dispatch__)
+        known = {"env": os.environ | {"NPY_DISABLE_CPU_FEATURES": features}, "check": True}
+        words = [sys.executable, "-c", script]
+        done = subprocess.run(words, **known, capture_output=True, text=True)
+        self.assertEqual(done.stdout.split(), hashes)
 
     def test_the_same_fields_draw_the_same_gas(self):
         X, Y = fhpgas.positions(Size(64, 47))
@@ -141,24 +126,20 @@ class Drawing(Package):
         other = fhpgas.draw_gas(0.3, lambda X, Y: X / 200 + 0 * Y, size=size, gas="hpp")
         self.assertEqual(fhpgas.draw_gas(0.3, along, size=size, gas="hpp"), other)
         self.assertEqual(fhpgas.draw_gas(1, size=Size(5, 4)).particles, 120)
-        sparse = [
-            fhpgas.draw_gas(part / 65536, size=Size(1024, 512)).particles for part in (0.4, 0.6)
-        ]  # of 48 numbers that are 0, as a mean
-        self.assertTrue(sparse[0] == 0 and abs(sparse[1] - 48) < 5 * math.sqrt(48), sparse)
+        drawn = (fhpgas.draw_gas(part / 65536, size=Size(1024, 512)) for part in (0.4, 0.6))
+        none, few = (lattice.particles for lattice in drawn)  # of numbers that are 0, 48 as a mean
+        self.assertTrue(none == 0 and abs(few - 48) < 5 * math.sqrt(48), (none, few))
 
     def test_discs_have_the_cells_within_their_radius(self):
-        """On the triangular lattice 1, 7 and 19 cells lie within 0, 1 and 2 steps, on the square
-        lattice 1, 5 and 13. Past the end too."""
-        for row, (radius, hexagon, square) in itertools.product(
-            (8, 9), ((0, 1, 1), (1, 7, 5), (2, 19, 13))
-        ):
+        """On the triangular lattice 1, 7 and 19 cells lie within 0, 1 and 2 steps, on the square lattice 1, 5 and 13. Past the end too."""
+        steps = (0, 1, 1), (1, 7, 5), (2, 19, 13)
+        for row, (radius, hexagon, square) in itertools.product((8, 9), steps):
             with self.subTest(row=row, radius=radius):
                 known = Size(40, 24), 39, row, radius
                 found = [fhpgas.disc(*known, gas).sum() for gas in ("fhp1", "hpp")]
                 self.assertEqual(found, [hexagon, square])
-        for gas, (row, radius) in itertools.product(
-            ("fhp1", "hpp"), ((0, 5.5), (7, 11), (22, 7 * ROOT3), (23, 60), (12, math.sqrt(43)))
-        ):
+        places = (0, 5.5), (7, 11), (22, 7 * ROOT3), (23, 60), (12, math.sqrt(43))
+        for gas, (row, radius) in itertools.product(("fhp1", "hpp"), places):
             with self.subTest(gas=gas, row=row, radius=radius):
                 X, Y = fhpgas.positions(Size(40, 24), gas)
                 turned = (X - X[row, 33] + turn for turn in (-80, -40, 0, 40, 80))
@@ -197,8 +178,7 @@ class Drawing(Package):
         self.assertEqual(fhpgas.shapes.rectangles(~box), parts)
 
     def test_a_picture_is_a_mask(self):
-        """The same letter as PBM, in both kinds, as PNG in grey, of 16 bits, in colours, of a
-        palette and transparent, and as an array."""
+        """The same letter as PBM, in both kinds, as PNG in grey, of 16 bits, in colours, of a palette and transparent, and as an array."""
         rows = "###.", "#..#", "###.", "#.#.", "#..#"
         dark = np.array([[pixel == "#" for pixel in row] for row in rows])
         grey = Image.fromarray(np.where(dark, 90, 200).astype(np.uint8))
@@ -251,5 +231,4 @@ class Drawing(Package):
             self.assertAlmostEqual(differ, 1 / 2, delta=5 * 0.5 / math.sqrt(64_000))
 
 
-if __name__ == "__main__":
-    needs.run_tests()
+needs.run_tests()

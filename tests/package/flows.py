@@ -50,31 +50,19 @@ class PlainKicks:
 
 class Flows(Package):
     def test_collisions_are_those_of_the_program(self):
-        """All states, three cells apart on an odd row: after a generation their particles are
-        where the program moved them."""
+        """All states, three cells apart on an odd row: after a generation their particles are where the program moved them."""
         for gas, side in itertools.product(map(fhpgas.gas_named, GASES), ("left", "right")):
             with self.subTest(gas=gas.name, side=side):
                 states = np.zeros((3, 3 << gas.directions), int)
                 states[1, 1::3] = range(1 << gas.directions)
                 after = fhpgas.Lattice(states, None, gas, side).run(1).states
-                found = sum(
-                    np.roll(after[1 + dy], -1 - dx)[::3] & 1 << i
-                    for i, (dx, dy) in enumerate(gas.steps[1])
-                )
-                self.assertEqual(
-                    found.tolist(),
-                    gas.collisions(side)[: 1 << gas.directions].tolist(),
-                    (gas, side),
-                )
+                moved = (np.roll(after[1 + dy], -1 - dx)[::3] for dx, dy in gas.steps[1])
+                found = sum(cells & 1 << i for i, cells in enumerate(moved))
+                self.assertEqual(found.tolist(), gas.collisions(side)[: len(found)].tolist())
 
     def test_a_reversed_run_comes_back_bit_for_bit(self):
-        for gas, side in (
-            ("fhp1", "left"),
-            ("fhp1", "right"),
-            ("fhp-rest", "left"),
-            ("fhp-rest", "right"),
-            ("hpp", "seeded"),
-        ):
+        two_sides = itertools.product(("fhp1", "fhp-rest"), ("left", "right"))
+        for gas, side in (*two_sides, ("hpp", "seeded")):
             with self.subTest(gas=gas, side=side):
                 start = wind((64, 47), gas, side)
                 late = start.run(100)
@@ -90,10 +78,8 @@ class Flows(Package):
                 for after in itertools.islice(before.every(1, 20), 1, None):
                     forces = fhpgas.forces(after)
                     self.same(sum(forces.values()), before.momentum - after.momentum, 9)
-                    halves = [
-                        fhpgas.forces(after, np.broadcast_to(parts ^ flip, (47, 64)))["solid"]
-                        for flip in (False, True)
-                    ]
+                    masks = (np.broadcast_to(parts ^ flip, (47, 64)) for flip in (False, True))
+                    halves = [fhpgas.forces(after, mask)["solid"] for mask in masks]
                     self.same(sum(halves), forces["solid"], 9)
                     self.assertEqual(fhpgas.staggered(after) if gas != "hpp" else (), kept)
                     before = after
@@ -129,36 +115,27 @@ class Flows(Package):
                 points = [*start.driven(60, 10, force=0.001, seed=4)]
                 self.assertEqual(points, [*fhpgas.driven(start, 60, 10, force=0.001, seed=4)])
                 self.assertNotEqual(points, [*start.driven(60, 10, force=0.001, seed=5)])
-                self.assertEqual(
-                    [point.before for point in points],
-                    [start, *(point.after.run(10) for point in points[:-1])],
-                )
+                wanted = [start, *(point.after.run(10) for point in points[:-1])]
+                self.assertEqual([point.before for point in points], wanted)
                 for point in points:
-                    given = point.after.momentum - point.before.momentum
-                    self.same(given, (2 * point.turned, 0), 9)
+                    before, after = point.before.momentum, point.after.momentum
+                    mean = (before + after)[0] / 2 / start.particles
+                    self.same(after - before, (2 * point.turned, 0), 9)
                     self.assertEqual(point.after.particles, start.particles)
-                    self.assertAlmostEqual(point.force, given[0] / 10 / start.fluid)
-                    self.assertAlmostEqual(
-                        point.velocity,
-                        (point.before.momentum + point.after.momentum)[0] / 2 / start.particles,
-                    )
-                self.assertAlmostEqual(
-                    sum(point.force for point in points) / 7, 0.001, delta=47 * 2 / 70 / start.fluid
-                )
+                    self.assertAlmostEqual(point.force, (after - before)[0] / 10 / start.fluid)
+                    self.assertAlmostEqual(point.velocity, mean)
+                mean, most = sum(point.force for point in points) / 7, 47 * 2 / 70 / start.fluid
+                self.assertAlmostEqual(mean, 0.001, delta=most)
+                still = fhpgas.draw_gas(0.3, solid=start.solid, gas=gas)
                 for flow in (0.05, -0.05):
-                    after = [
-                        *fhpgas.draw_gas(0.3, solid=start.solid, gas=gas).driven(20, 10, flow=flow)
-                    ][-1].after
-                    self.assertAlmostEqual(
-                        after.momentum[0] / after.particles, flow, delta=47 / after.particles
-                    )
+                    *_, (_, after, *_) = still.driven(20, 10, flow=flow)
+                    mean = after.momentum[0] / after.particles
+                    self.assertAlmostEqual(mean, flow, delta=47 / after.particles)
 
     def test_a_kick_turns_the_particles_that_its_rule_names(self):
-        """As a plain second implementation turns them, which owes what a row lacks to the next
-        kick. In a thin gas rows lack particles."""
-        for gas, along, filling in itertools.product(
-            GASES, ("rows", "directions"), (0.3, 0.04, 0.01)
-        ):
+        """As a plain second implementation turns them, which owes what a row lacks to the next kick. In a thin gas rows lack particles."""
+        ways = "rows", "directions"
+        for gas, along, filling in itertools.product(GASES, ways, (0.3, 0.04, 0.01)):
             with self.subTest(gas=gas, along=along, filling=filling):
                 solid = np.arange(21 * 40).reshape(21, 40) % 3 == 1
                 start = fhpgas.draw_gas(filling, solid=solid, gas=gas, seed=7)
@@ -171,17 +148,14 @@ class Flows(Package):
                 self.assertTrue(filling == 0.3 or most > 0.6, (gas, along, most))
         for flow in (0.1, -0.2):
             with self.subTest(flow=flow):
-                plain, points = PlainKicks(start, along, 0), start.driven(
-                    12, 4, flow=flow, along=along
-                )
-                for before, after, *_ in points:
+                plain = PlainKicks(start, along, 0)
+                for before, after, *_ in start.driven(12, 4, flow=flow, along=along):
                     wanted = flow * start.particles - before.momentum[0]
                     self.assertEqual(after.states.tolist(), plain.kicked(before, wanted).tolist())
                     plain.owed = plain.owed.clip(-0.5, 0.5)
 
     def test_a_force_along_the_directions_changes_each_by_its_velocity(self):
-        """c_i to the east: E by twice as much as NE and SE, which is two thirds of the momentum.
-        Along the rows only E changes."""
+        """c_i to the east: E by twice as much as NE and SE, which is two thirds of the momentum. Along the rows only E changes."""
         start = fhpgas.draw_gas(0.3, size=Size(512, 256), gas="fhp-rest", seed=2)
         for along, shares in (
             ("rows", [1 / 2, 0, 0, -1 / 2, 0, 0, 0]),
@@ -215,5 +189,4 @@ class Flows(Package):
                 self.assertEqual(last.before.generation, 120)
 
 
-if __name__ == "__main__":
-    needs.run_tests()
+needs.run_tests()

@@ -1,6 +1,5 @@
 #!/usr/bin/env python3
-"""Compares lattices, their runs, texts, files and refusals with the program itself, or with values
-made by hand. Ends with the counts."""
+"""Compares lattices, their runs, texts, files and refusals with the program itself, or with values made by hand. Ends with the counts."""
 
 import copy
 import dataclasses
@@ -24,44 +23,34 @@ from fhpgas import Size, engine, program
 from matplotlib.figure import Figure
 
 CELLS = "generation 1 particles 2\n....02..\n........\n##10....\n"
-# Calls that do not fit, and a part of the line that says why, beside or below them. `start` is the
-# lattice of AREA, `solid` a mask of 64 x 47 cells.
+# Calls that do not fit, and a part of the line that says why. `start` is the lattice of AREA, `large` has 256 x 96 cells, `solid` is
+# a mask of 64 x 47.
 FAULTS = """
-Lattice([[0, 64]])
-    a state of fhp1 is an integer from 0 to 63, and row 0 column 1 has 64
+Lattice([[0, 64]])                                  a state of fhp1 is an integer from 0 to 63, and row 0 column 1 has 64
 Lattice([[0], [-1]])                                row 1 column 0 has -1
 Lattice([[0.5]])                                    of the type float64
-Lattice([1])
-    arrays [y, x] of one shape, 1 to 65536 each way, not (1,) and (1,)
+Lattice([1])                                        arrays [y, x] of one shape, 1 to 65536 each way, not (1,) and (1,)
 Lattice([[1, 2]], [[0]])                            not (1, 2) and (1, 1)
 Lattice([[1]], [[1]])                               row 0 column 0 is solid and contains a particle
 Lattice([[1]], [[0.5]])                             solid cells are an array of truth values
 gas(0.2, solid=255 * np.ones((4, 4), np.uint8))     compare an image with a number
-forces(start)
-    a lattice of generation 0 has had no collision with a wall
+forces(start)                                       a lattice of generation 0 has had no collision with a wall
 film("a.gif", start)                                a film or a strip has several states
 film("no/a.gif", [start])                           no/a.gif: No such file or directory
 mean([start.blocks(), start.blocks()])              blocks are added
 start.plot("speed", 1, block=8)                     a block is two integers, columns and rows, not 8
 Lattice([[0]], gas="fhp2")                          a gas is one of fhp1, hpp, fhp-rest, not 'fhp2'
-Lattice([[0]], chirality="up")
-    a chirality is one of seeded, left, right, not 'up'
-Lattice([[0]], seed=-1)
-    a seed is an integer from 0 to 9223372036854775807, not -1
+Lattice([[0]], chirality="up")                      a chirality is one of seeded, left, right, not 'up'
+Lattice([[0]], seed=-1)                             a seed is an integer from 0 to 9223372036854775807, not -1
 start.replace(seed=1.0)                             not 1.0
 start.run(np.arange(2))                             not array([0, 1])
-start.run(-1)
-    the number of generations is an integer from 0 to 1000000, not -1
+start.run(-1)                                       the number of generations is an integer from 0 to 1000000, not -1
 run(AREA, 1e3)                                      not 1000.0
 start.run(1, workers=0)                             the number of workers is an integer from 1, not 0
-run(AREA, 1, stages=65)
-    the number of stages is an integer from 1 to 64, not 65
-run(AREA, 1, capacity=1025)
-    the capacity is an integer from 1 to 1024, not 1025
-coarse(AREA, 1, 4097)
-    the number of columns of a block is an integer from 1 to 4096, not 4097
-start.blocks(0)
-    the number of columns of a block is an integer from 1, not 0
+run(AREA, 1, stages=65)                             the number of stages is an integer from 1 to 64, not 65
+run(AREA, 1, capacity=1025)                         the capacity is an integer from 1 to 1024, not 1025
+coarse(AREA, 1, 4097)                               the number of columns of a block is an integer from 1 to 4096, not 4097
+start.blocks(0)                                     the number of columns of a block is an integer from 1, not 0
 start.every(-1, 2)                                  a step is an integer from 1 to 1000000, not -1
 start.save("/no/such/a.toml")                       No such file
 vast.save("vast.toml")                              save them as .npz
@@ -70,21 +59,17 @@ next(start.long_run(10**12 + 1, 10**6, "a.npz"))    the last generation is an in
 start.save("a.nc")                                  a.nc: a lattice is saved as .toml or .npz
 start.long_run(4, 2, "a.txt")                       a.txt: a lattice is saved as .toml or .npz
 start.blocks().save("b.csv")                        b.csv: Blocks are saved as .npz
-run(AREA + "#" * 2**26, 1)
-    the scene has 67108943 bytes, and the program reads 67108864
+run(AREA + "#" * 2**26, 1)                          the scene has 67108943 bytes, and the program reads 67108864
 run("no/such.toml", 1)                              no/such.toml: No such file
 check(AREA.encode())                                not as bytes
 Lattice.load(AREA + "colour = 1")                   scene: unknown key (`explain` says where)
 with_seed(start.scene(), 1)                         leave `cells` as they are
 with_seed(AREA + "particles = [[0, 0, 1]]", 1)      leave `particles` as they are
 with_seed(AREA.replace("300", "0"), 1)              `rate` is 0
-read_cells(CELLS, "fhp1", Size(3, 4))
-    the cells are 4 x 3 (columns x rows), and not 3 x 4
+read_cells(CELLS, "fhp1", Size(3, 4))               the cells are 4 x 3 (columns x rows), and not 3 x 4
 read_cells(CELLS, "hpp", Size(4, 3))                from 0 to 15
-read_table(TABLE, "hpp", (2, 2), Size(6, 3))
-    no whole table of `coarse` with 3 columns and 2 rows of blocks
-start.blocks() + start.blocks(9, 9)
-    only blocks of one gas, one size and one lattice's size
+read_table(TABLE, "hpp", (2, 2), Size(6, 3))        no whole table of `coarse` with 3 columns and 2 rows of blocks
+start.blocks() + start.blocks(9, 9)                 only blocks of one gas, one size and one lattice's size
 replace(start.blocks(), size=Size(66, 10))          66 x 10 cells have 9 x 2 blocks of 8 x 9
 start.blocks().smooth(-1)                           sigma is a number from 0
 start.blocks().smooth().text()                      smoothed sums have fractions
@@ -93,40 +78,28 @@ GASES["hpp"].collisions("seeded")                   left or right, not 'seeded'
 equilibrium("fhp1", 0.2, 1.0)                       no fhp1 of filling 0.2 has the velocity 1, 0
 equilibrium("fhp1", [0.2, 0.9], 0.3)                no fhp1 of filling 0.9 has the velocity 0.3, 0
 equilibrium("hpp", 0.5, nan)                        the field `east` has a value that is not finite
-equilibrium("fhp1", 1.2)
-    a filling is the chance per direction, 0 to 1, not 1.2 (particles per cell are a density)
+equilibrium("fhp1", 1.2)  a filling is the chance per direction, 0 to 1, not 1.2 (particles per cell are a density)
 gas(0.2)                                            the size is not known
 gas(0.2, 0.1 * np.ones((47, 1)))                    the size is not known
 gas(lambda X, Y: 0.2)                               the size is not known
-gas(0.2, size=64)
-    a size is fhpgas.Size(columns, rows), or a lattice or an array [y, x] of this size, not 64
+gas(0.2, size=64)  a size is fhpgas.Size(columns, rows), or a lattice or an array [y, x] of this size, not 64
 gas(0.2, size=solid.shape)                          of this size, not (47, 64)
 positions((64, 47))                                 of this size, not (64, 47)
 read_cells(CELLS, "fhp1", (4, 3))                   of this size, not (4, 3)
-gas(0.2, size=Size(64.0, 64))
-    the number of columns of a size is an integer from 1, not 64.0
+gas(0.2, size=Size(64.0, 64))                       the number of columns of a size is an integer from 1, not 64.0
 gas(0.2, size=Size(70000, 1))                       1 to 65536 each way
-gas(np.ones((3, 4)), size=Size(4, 4))
-    the field `filling` has the shape (3, 4), and the lattice 4 rows and 4 columns
+gas(np.ones((3, 4)), size=Size(4, 4))               the field `filling` has the shape (3, 4), and the lattice 4 rows and 4 columns
 gas(0.2, size=Size(9, 9), solid=solid)              the field `solid` has the shape (47, 64)
 gas(np.ones((4, 5)), np.ones((2, 3)))               which do not fit together
-gas(0.2, None, size=Size(4, 4))
-    the field `east` is numbers or a function of the place, not None
-disc(Size(64, 24), 64, 0, 1)
-    the column of a disc is an integer from 0 to 63, not 64
-disc(Size(64, 24), 0, 0, nan)
-    the radius of a disc is a number from 0 to inf, not nan
-polygon(Size(9, 9), [(1, 2), (3, 4)])
-    a polygon has three corners (column, row) or more
-polygon(Size(9, 9), [1, 2, 3, 4, 5, 6])
-    a polygon has three corners (column, row) or more
-polygon(Size(9, 9), [(0, 0), (1, inf), (1, 1)])
-    at most 1e+06 away, not [(0, 0), (1, inf), (1, 1)]
-porous(Size(9, 9), 30, 1)
-    the share of solid cells is a number from 0 to 1, not 30
+gas(0.2, None, size=Size(4, 4))                     the field `east` is numbers or a function of the place, not None
+disc(Size(64, 24), 64, 0, 1)                        the column of a disc is an integer from 0 to 63, not 64
+disc(Size(64, 24), 0, 0, nan)                       the radius of a disc is a number from 0 to inf, not nan
+polygon(Size(9, 9), [(1, 2), (3, 4)])               a polygon has three corners (column, row) or more
+polygon(Size(9, 9), [1, 2, 3, 4, 5, 6])             a polygon has three corners (column, row) or more
+polygon(Size(9, 9), [(0, 0), (1, inf), (1, 1)])     at most 1e+06 away, not [(0, 0), (1, inf), (1, 1)]
+porous(Size(9, 9), 30, 1)                           the share of solid cells is a number from 0 to 1, not 30
 porous(Size(9, 9), 0.3, 1, np.random.default_rng())  a seed is an integer
-nozzle(Size(64, 24), 6, 65)
-    the length of a nozzle is an integer from 1 to 64
+nozzle(Size(64, 24), 6, 65)                         the length of a nozzle is an integer from 1 to 64
 bitmap(Size(64, 40), solid, 1)                      the picture leaves the channel of 64 x 40 cells
 bitmap(Size(64, 48), solid, 1e308)                  a number from 1e-09 to 65536, not 1e+308
 bitmap(Size(64, 40), "no.png")                      no.png: No such file
@@ -137,8 +110,14 @@ next(start.driven(20, 7, force=1))                  20 generations are not a mul
 next(start.driven(20, force=nan))                   a force is a number from -2 to 2, not nan
 next(start.driven(20, force=2))                     particles to turn
 gas(0, size=Size(4, 4)).driven(20, force=1)         no particle that could be turned
-start.driven(20, force=1, along="x")
-    a force acts along one of rows, directions, not 'x'
+start.driven(20, force=1, along="x")                a force acts along one of rows, directions, not 'x'
+film("a.gif", [])                                   a state or more
+strip([])                                           a state or more
+film("a.avi", [large])                              a film is written as
+plot(AREA)                                          a Lattice or of Blocks
+film("a.gif", [large], block=8)                     two integers
+plot(large, "particles")                            no picture of 'particles'
+film("a.gif", [large], fps=0)                       frames per second
 """
 CHIRALITIES = "seeded", "left", "right"
 SIZES = Size(64, 47), Size(65, 33), Size(1, 5), Size(7, 1)
@@ -146,14 +125,10 @@ SIZES = Size(64, 47), Size(65, 33), Size(1, 5), Size(7, 1)
 
 def printed(lattice, words):
     """What the program prints for a scene that is written here by docs/FORMATS.md."""
-    pairs = zip(lattice.states, lattice.solid)
-    rows = (
-        '"' + "".join("##" if wall else f"{state:02x}" for state, wall in zip(*pair)) + '"'
-        for pair in pairs
-    )
+    cells = np.where(lattice.solid, "##", np.char.mod("%02x", lattice.states))
     scene = f'version = 2\ngas = "{lattice.gas.name}"\nchirality = "{lattice.chirality}"\n'
     scene += f"seed = {lattice.seed}\ngeneration = {lattice.generation}\n"
-    scene += f"cells = [{', '.join(rows)}]\n"
+    scene += f"""cells = [{', '.join(f'"{"".join(row)}"' for row in cells)}]\n"""
     return subprocess.check_output([PROGRAM, *words.split()], input=scene, text=True)
 
 
@@ -163,6 +138,7 @@ class Lattices(Package):
         names |= {"gas": fhpgas.draw_gas, "mean": fhpgas.mean_and_error}
         names |= {"start": fhpgas.Lattice.load(AREA), "solid": wind((64, 47)).solid}
         names["vast"] = fhpgas.Lattice(np.zeros((8200, 4096), np.uint8))
+        names["large"] = fhpgas.draw_gas(0.2, size=Size(256, 96))
         for call, part in re.findall(r"^(\S.*?)\s{2,}(.+)$", FAULTS, re.M):
             with self.subTest(call=call):
                 self.fault(part, lambda: eval(call, names))
@@ -254,10 +230,8 @@ class Lattices(Package):
                 self.assertEqual(fhpgas.check(scene), summary)
                 self.assertEqual(fhpgas.run(scene, 5), start.run(5))
                 self.assertEqual(fhpgas.coarse(scene, 5, 11, 4), start.run(5).blocks(11, 4))
-        text = (
-            'version = 2\ngas = "hpp" # cells = ["##"]\ncells = [\n  "##01", # a ] mark\n'
-            '  "0100",\n]\nchirality = "left"\nseed = 4\n'
-        )
+        text = 'version = 2\ngas = "hpp" # cells = ["##"]\ncells = [\n  "##01", # a ] mark\n'
+        text += '  "0100",\n]\nchirality = "left"\nseed = 4\n'
         wanted = fhpgas.Lattice([[0, 1], [1, 0]], [[1, 0], [0, 0]], "hpp", "left", 4, 9)
         self.assertEqual(fhpgas.Lattice.load(text + "generation = 9"), wanted)
         vast = 'version = 2\ngas = "fhp1"\nwidth = 65536\nheight = 1024\nrate = 1000\n'
@@ -318,26 +292,25 @@ class Lattices(Package):
         image = blocks.plot(np.ma.masked_where(blocks.east > 0.1, blocks.east), Figure().subplots())
         self.assertTrue(np.ma.getmaskarray(image.get_array())[blocks.east > 0.1].all())
         gas, states = fhpgas.gas_named("fhp1"), np.ma.masked_where(odd, start.states)
+        size, thin = Size(64, 47), np.ma.masked_where(odd, 0.2 + 0 * odd)
+        walls, drawn = np.ma.masked_where(odd, odd), functools.partial(fhpgas.draw_gas, size=size)
         for function, *words in (
             (fhpgas.Lattice, states),
             (fhpgas.Lattice, [*states]),
-            (fhpgas.Lattice, 0 * start.states, np.ma.masked_where(odd, odd)),
-            (fhpgas.draw_gas, np.ma.masked_where(odd, 0.2 + 0 * odd)),
-            (fhpgas.draw_gas, lambda X, Y: np.ma.masked_where(odd, 0 * X + 0 * Y), 0.0, 0.0),
-            (fhpgas.bitmap, Size(64, 47), np.ma.masked_where(odd, odd)),
-            (fhpgas.boltzmann.Flow, "fhp1", np.ma.masked_where(odd, odd)),
-            (fhpgas.equilibrium, gas, np.ma.masked_where(odd, 0.2 + 0 * odd)),
+            (fhpgas.Lattice, 0 * start.states, walls),
+            (fhpgas.draw_gas, thin),
+            (drawn, lambda X, Y: np.ma.masked_where(odd, 0 * X + 0 * Y), 0.0, 0.0),
+            (fhpgas.bitmap, size, walls),
+            (fhpgas.boltzmann.Flow, "fhp1", walls),
+            (fhpgas.equilibrium, gas, thin),
             (fhpgas.theory.viscosity, gas, np.ma.masked_equal([0.2, 0.3], 0.3)),
             (fhpgas.flux, gas, np.ma.masked_equal(start.counts(), start.counts()[2])),
-            (fhpgas.forces, start.run(1), np.ma.masked_where(odd, odd)),
+            (fhpgas.forces, start.run(1), walls),
             (fhpgas.mean_and_error, [np.ma.masked_equal([1.0, 2.0], 2.0), np.array([1.0, 3.0])]),
-            (fhpgas.polygon, Size(64, 47), np.ma.masked_equal([(0, 0), (9, 0), (0, 9)], 9)),
+            (fhpgas.polygon, size, np.ma.masked_equal([(0, 0), (9, 0), (0, 9)], 9)),
         ):
             with self.subTest(function=function):
-                call = functools.partial(function, *words)
-                if function is fhpgas.draw_gas and callable(words[0]):
-                    call = functools.partial(call, size=Size(64, 47))
-                self.fault("a masked value is none", call)
+                self.fault("a masked value is none", function, *words)
 
     def test_a_file_is_saved_where_a_link_points_and_never_over_what_is_no_file(self):
         start, room = fhpgas.Lattice.load(AREA), self.room / "saved"
@@ -372,15 +345,10 @@ class Lattices(Package):
         self.assertEqual(fhpgas.Lattice.load(shared), start)
 
     def test_a_refusal_names_its_file(self):
-        (self.room / "wrong.toml").write_text("x\n")
-        path = self.room / "wrong.toml"
-        for call in (
-            fhpgas.check,
-            fhpgas.Lattice.load,
-            lambda path: fhpgas.with_seed(path, 1),
-            lambda path: fhpgas.coarse(path, 1),
-            lambda path: fhpgas.Lattice.load(AREA).long_run(2, 1, path),
-        ):
+        (path := self.room / "wrong.toml").write_text("x\n")
+        calls = fhpgas.check, fhpgas.Lattice.load, lambda path: fhpgas.with_seed(path, 1)
+        late = lambda path: fhpgas.Lattice.load(AREA).long_run(2, 1, path)
+        for call in *calls, lambda path: fhpgas.coarse(path, 1), late:
             with self.subTest(call=call):
                 self.fault(f"{path}: scene: not TOML", call, path)
         fhpgas.Lattice.load(AREA.replace("fhp1", "hpp")).save(path)
@@ -390,30 +358,17 @@ class Lattices(Package):
         for gas in GASES:
             with self.subTest(gas=gas):
                 lattice = wind((65, 33), gas).run(2)
-                parts = [
-                    [
-                        lattice.states[top : top + 20, left : left + 30].ravel().tolist()
-                        for left in (0, 30, 60)
-                    ]
-                    for top in (0, 20)
-                ]
-                counts = [
-                    [[sum(state >> i & 1 for state in part) for part in row] for row in parts]
-                    for i in range(lattice.gas.directions)
-                ]
-                self.assertEqual(
-                    (lattice.counts(30, 20).tolist(), lattice.counts().tolist()),
-                    (counts, np.sum(counts, (1, 2)).tolist()),
-                )
-                self.same(lattice.counts(None, 20), np.sum(counts, 2, keepdims=True))
+                flags = lattice.states >> np.arange(lattice.gas.directions)[:, None, None] & 1
+                rows = np.add.reduceat(flags, (0, 20), axis=1)
+                counts = np.add.reduceat(rows, (0, 30, 60), axis=2)
+                whole = flags.sum((1, 2))
+                self.assertEqual(lattice.counts(30, 20).tolist(), counts.tolist())
+                self.assertEqual(lattice.counts().tolist(), whole.tolist())
+                self.same(lattice.counts(None, 20), counts.sum(2, keepdims=True))
                 self.assertEqual(lattice.blocks(None, 9), lattice.blocks(65, 9))
-                self.same(lattice.momentum, np.sum(counts, (1, 2)) @ lattice.gas.velocities)
-                self.same(
-                    lattice.momentum,
-                    lattice.gas.units * [lattice.blocks().px.sum(), lattice.blocks().py.sum()],
-                    9,
-                )
+                self.same(lattice.momentum, whole @ lattice.gas.velocities)
+                sums = lattice.blocks().px.sum(), lattice.blocks().py.sum()
+                self.same(lattice.momentum, np.multiply(lattice.gas.units, sums), 9)
 
 
-if __name__ == "__main__":
-    needs.run_tests()
+needs.run_tests()
