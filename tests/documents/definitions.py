@@ -29,7 +29,6 @@ SAID = {  # of the lines for answer
 }
 NAME = re.compile(r"[A-Za-z_ℕℤ⊤⊥][\w'⊤⊥ℕℤ-]*")
 HEAD = re.compile(r"^(?:(?:pub|abbrev|unfoldable|record|data) )+([\w'-]+)", re.M)
-USE = re.compile(r"^\s*(?:ghost )?use Rattle\.(\w+)\.specs\.([\w.]+)\.\{([^}]*)\}", re.M)
 USE_OF_TYPE = re.compile(
     r"(?m)^\s*use Rattle\.(\w+)\.specs\.declared\.[\w.]*?(\w+)(?:\.TheVariants)?(?:\.\{([^}]*)\}| as (\w+))"
 )
@@ -78,12 +77,8 @@ def is_own(crate):
 
 def imports(text):
     """The definitions that `use` lines bring in, by their names here."""
-    found = {}
-    for crate, file, names in USE.findall(text):
-        if is_own(crate) and not file.startswith("declared"):
-            for there, _, here in (name.strip().partition(" as ") for name in names.split(",")):
-                found[here.strip() or there] = (crate, file, there)
-    return found
+    brought = kit_definitions.brought(text).items()
+    return {name: key for name, key in brought if is_own(key[0])}
 
 
 def types_in(text):
@@ -248,8 +243,7 @@ def reached_in_kit(believed, kit):
     wanted = set()
     for crate, file in {key[:2] for key in believed}:
         text = specs(crate, file)
-        brought = kit_definitions.brought(text).items()
-        names = {name: key for name, key in brought if not is_own(key[0])}
+        names = {it: key for it, key in kit_definitions.brought(text).items() if not is_own(key[0])}
         for block in re.split(r"\n\s*\n", text):
             if any((crate, file, name) in believed for name in HEAD.findall(block)):
                 code = kit_definitions.code_of(block)

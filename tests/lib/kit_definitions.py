@@ -7,7 +7,7 @@ import shutil
 import subprocess
 
 LANGUAGE = {"core", "std", "std_alloc", "std_collections", "std_heap", "std_io"}
-USE = re.compile(r"^(?:pub )?use Rattle\.(\w+)\.specs\.([\w.]+)\.\{([^}]*)\}", re.M)
+USE = re.compile(r"^\s*(?:pub |ghost )?use Rattle\.(\w+)\.specs\.([\w.]+)\.\{([^}]*)\}", re.M)
 KINDS = r"(?:pub|abbrev|unfoldable|record|data)"
 NAME = r"([^\s(){}:]+)"
 WORD = re.compile(r"[^\s(){}\[\].,;]+")
