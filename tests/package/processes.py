@@ -1,6 +1,5 @@
 #!/usr/bin/env python3
-"""Tests how the program is found and ended, runs side by side, the examples of docstrings, and
-costs. Ends with the counts."""
+"""Tests how the program is found and ended, runs side by side, the examples of docstrings, and costs. Ends with the counts."""
 
 import concurrent.futures
 import contextlib
@@ -22,6 +21,7 @@ sys.path.append(f"{sys.path[0]}/../lib")
 import needs
 from package_case import PROGRAM, Package, wind
 
+needs.libraries("distributed", "tqdm")
 import distributed
 import fhpgas
 import numpy as np
@@ -79,19 +79,10 @@ def programs_of(of, number):
 
 class Processes(Package):
     def test_the_program_is_found(self):
-        """In a folder as an archive unpacks, with a program next to the package, by FHPGAS, and
-        on the PATH."""
-        words = [
-            sys.executable,
-            "-c",
-            'import fhpgas; print(fhpgas.run(\'gas = "hpp"\\ncells = ["01.."]\', 1).text(),'
-            " end='')",
-        ]
-        shutil.copytree(
-            needs.ROOT / "python",
-            self.room / "python",
-            ignore=shutil.ignore_patterns("__pycache__"),
-        )
+        """In a folder as an archive unpacks, with a program next to the package, by FHPGAS, and on the PATH."""
+        script = "import fhpgas; print(fhpgas.run('gas = \"hpp\"\\ncells = [\"01..\"]', 1).text(), end='')"
+        words, no_caches = [sys.executable, "-c", script], shutil.ignore_patterns("__pycache__")
+        shutil.copytree(needs.ROOT / "python", self.room / "python", ignore=no_caches)
         shutil.copy(PROGRAM, self.room / "fhpgas")
 
         def ran(**more):
@@ -100,37 +91,25 @@ class Processes(Package):
             return done.stdout or done.stderr
 
         self.assertEqual(ran(), "generation 1 particles 1\n..01\n")
-        for other, part in (
-            ("/no/such", "is missing"),
-            ("/tmp", "is no file"),
-            ("/bin/false", "does not start"),
-            ("/bin/ls", "or is another program"),
-        ):
+        others = {"/no/such": "is missing", "/tmp": "is no file", "/bin/false": "does not start"}
+        for other, part in (others | {"/bin/ls": "or is another program"}).items():
             with self.subTest(other=other):
                 self.assertRegex(ran(FHPGAS=other), f"{other} .*{part}")
         (self.room / "bin").mkdir()
         (self.room / "fhpgas").rename(self.room / "bin/fhpgas")
         self.assertIn("the program fhpgas is not found", ran())
-        self.assertEqual(
-            (ran(PATH=f"{self.room}/bin"), ran(FHPGAS=f"{self.room}/bin/fhpgas")),
-            ("generation 1 particles 1\n..01\n",) * 2,
-        )
+        for more in {"PATH": f"{self.room}/bin"}, {"FHPGAS": f"{self.room}/bin/fhpgas"}:
+            self.assertEqual(ran(**more), "generation 1 particles 1\n..01\n", more)
         others = "{'numpy', 'matplotlib', 'scipy', 'PIL', 'distributed'}"
         words[2] = f"import fhpgas, sys; print({others} & {{*sys.modules}})"
         self.assertEqual(ran(), "{'numpy'}\n")
 
     def test_a_plan_is_chosen_from_the_cores_of_the_process(self):
-        self.assertEqual(
-            [fhpgas.plan(1024, 1000, cores) for cores in (1, 4, 8, 64)],
-            [(16, 128, 1), (64, 128, 4), (64, 128, 8), (64, 128, 64)],
-        )
-        self.assertEqual(
-            [
-                fhpgas.plan(rows, steps, 4)[::2]
-                for rows, steps in ((256, 100), (24, 100), (9, 1), (1024, 3))
-            ],
-            [(16, 4), (1, 1), (1, 1), (3, 3)],
-        )
+        plans = "1024 1000 1: 16 1, 1024 1000 4: 64 4, 1024 1000 8: 64 8, 1024 1000 64: 64 64"
+        plans += ", 256 100 4: 16 4, 24 100 4: 1 1, 9 1 4: 1 1, 1024 3 4: 3 3"
+        for known, _, plan in (text.partition(": ") for text in plans.split(", ")):
+            stages, threads = map(int, plan.split())
+            self.assertEqual(fhpgas.plan(*map(int, known.split())), (stages, 128, threads), known)
         self.assertEqual(fhpgas.plan(24, 100, 4, stages=6), (6, 128, 4))
         with unittest.mock.patch.object(os, "sched_getaffinity", lambda process: {5, 6}):
             self.assertEqual(fhpgas.plan(1024, 1000), (32, 128, 2))
@@ -145,11 +124,10 @@ class Processes(Package):
         start = wind((64, 47))
         for progress in ({}, {"progress": True}):
             with unittest.mock.patch.object(sys, "stderr", Terminal()) as terminal:
-                self.assertEqual(len([*start.every(1, 3, **progress)]), 4)
-                self.assertEqual(len([*start.driven(6, 2, force=0.001, **progress)]), 4)
-                self.assertEqual(
-                    len([*start.long_run(5, 1, self.room / str(progress), **progress)]), 5
-                )
+                kept = self.room / str(progress)
+                parts = start.every(1, 3, **progress), start.driven(6, 2, force=0.001, **progress)
+                parts = *parts, start.long_run(5, 1, kept, **progress)
+                self.assertEqual([len([*part]) for part in parts], [4, 4, 5])
                 fhpgas.side_by_side(start.run, range(6), **progress)
                 start.run(10, **progress), fhpgas.run(start.scene(), 10)
             counts = ((3, "part"), (4, "point"), (5, "part"), (6, "run"), (1, "part"))
@@ -164,13 +142,11 @@ class Processes(Package):
             self.assertEqual(fhpgas.side_by_side(lambda seed: particles_of(seed), range(5)), alone)
         inner = fhpgas.side_by_side(lambda _: fhpgas.side_by_side(particles_of, range(5)), range(3))
         self.assertEqual(inner, [alone] * 3)
-        for pool in (concurrent.futures.ThreadPoolExecutor, concurrent.futures.ProcessPoolExecutor):
-            with self.subTest(pool=pool):
-                with pool(2) as executor:
-                    self.assertEqual(fhpgas.side_by_side(particles_of, range(5), executor), alone)
-        with distributed.Client(
-            n_workers=2, threads_per_worker=1, dashboard_address=":0"
-        ) as client, client.get_executor() as executor:
+        for pool in concurrent.futures.ThreadPoolExecutor, concurrent.futures.ProcessPoolExecutor:
+            with self.subTest(pool=pool), pool(2) as executor:
+                self.assertEqual(fhpgas.side_by_side(particles_of, range(5), executor), alone)
+        known = dict(n_workers=2, threads_per_worker=1, dashboard_address=":0")
+        with distributed.Client(**known) as client, client.get_executor() as executor:
             self.assertEqual(fhpgas.side_by_side(particles_of, range(5), executor), alone)
 
     def test_a_member_that_fails_or_is_killed_and_an_interrupt_end_all_runs(self):
@@ -198,28 +174,22 @@ class Processes(Package):
                 signal.pthread_kill(threading.main_thread().ident, signal.SIGINT)
             return fhpgas.side_by_side(long_run, [number] * 2)
 
-        for number in range(ROUNDS):
-            for function, raised in (
-                (failing, Own),
-                (killed, fhpgas.Fault),
-                (interrupted, KeyboardInterrupt),
-            ):
-                with self.assertRaises(raised) as found, unittest.mock.patch.object(
-                    os, "sched_getaffinity", lambda process: {*range(4)}
-                ):
-                    fhpgas.side_by_side(function, range(6))
-                self.assertTrue(raised is not Own or found.exception is own)
-                self.assertEqual(programs_of("ppid", os.getpid()), set())
+        four = unittest.mock.patch.object(os, "sched_getaffinity", lambda process: {*range(4)})
+        cases = (failing, Own), (killed, fhpgas.Fault), (interrupted, KeyboardInterrupt)
+        for _, (function, raised) in itertools.product(range(ROUNDS), cases):
+            with self.assertRaises(raised, msg=function.__name__) as found, four:
+                fhpgas.side_by_side(function, range(6))
+            self.assertTrue(raised is not Own or found.exception is own)
+            self.assertEqual(programs_of("ppid", os.getpid()), set())
 
     def test_a_signal_to_the_parent_ends_the_programs_too(self):
         """Of a process that is signalled alone, as a notebook's is, also while it is stopped, as by
         `kill %1` after Ctrl-Z. An interrupt raises a KeyboardInterrupt there."""
-        script = (
-            "import fhpgas, signal\nsignal.signal(signal.SIGINT, signal.default_int_handler)  # in"
-            " the background it is ignored\nsignal.signal(signal.SIGHUP, signal.SIG_DFL)  # and this"
-            " by nohup\n"
-            "long = lambda seed: fhpgas.run(fhpgas.draw_gas(0.2, size=fhpgas.Size(4096, 64),"
-            " seed=seed).scene(), 10**6, 16)\n"
+        script = (  # in the background SIGINT is ignored, and by nohup SIGHUP
+            "import fhpgas, signal\nsignal.signal(signal.SIGINT, signal.default_int_handler)\n"
+            "signal.signal(signal.SIGHUP, signal.SIG_DFL)\nsize = fhpgas.Size(4096, 64)\n"
+            "start = lambda seed: fhpgas.draw_gas(0.2, size=size, seed=seed).scene()\n"
+            "long = lambda seed: fhpgas.run(start(seed), 10**6, 16)\n"
         )
         cases = itertools.product(
             (signal.SIGINT, signal.SIGTERM, signal.SIGHUP, signal.SIGKILL),
@@ -229,12 +199,8 @@ class Processes(Package):
         for number, call, is_stopped in cases:
             with self.subTest(number=number, call=call, is_stopped=is_stopped):
                 words = [sys.executable, "-c", script + call]
-                with subprocess.Popen(
-                    words,
-                    stderr=subprocess.PIPE,
-                    text=True,
-                    start_new_session=True,
-                ) as process:
+                known = dict(stderr=subprocess.PIPE, text=True, start_new_session=True)
+                with subprocess.Popen(words, **known) as process:
                     while not (runs := programs_of("sid", process.pid)):
                         self.assertIsNone(process.poll())
                         time.sleep(0.01)
@@ -264,16 +230,12 @@ class Processes(Package):
             calls |= {name: call for name, call in known.items() if is_function(call)}
         for name, call in calls.items():
             with self.subTest(call=name):
-                if is_function(call) and [*inspect.signature(call).parameters] not in (
-                    [],
-                    ["self"],
-                ):
+                if is_function(call) and {*inspect.signature(call).parameters} - {"self"}:
                     for section in ("Parameters", "Examples"):
                         self.assertIn(f"\n{section}\n", inspect.getdoc(call), name)
 
     def test_costs_grow_as_sizes_do(self):
-        """A lattice of four times the rows takes at most 2.5^2 times the processor time, at best
-        of up to twenty tries of both in turn."""
+        """A lattice of four times the rows takes at most 2.5^2 times the processor time, at best of up to twenty tries of both in turn."""
         room, figure = self.room, Figure()
 
         def lattice(rows):
