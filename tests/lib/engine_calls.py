@@ -32,8 +32,7 @@ class Library:
         self.library = ctypes.CDLL(str(path))
 
     def call(self, name, *words):
-        """The number that a call returns, by the header. An array is one word, and comes after all
-        numbers."""
+        """The number that a call returns, by the header. An array is one word, and comes after all numbers."""
         (result, taken), call = prototypes()[name], self.library[f"fhpgas_{name}"]
         call.restype = NUMBERS[result]
         call.argtypes = [NUMBERS.get(kind, ctypes.c_void_p) for kind, _ in taken]

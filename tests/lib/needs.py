@@ -1,10 +1,9 @@
 #!/usr/bin/env python3
-"""What the scripts of the tests share. They may import the package in python/. A script that lacks
-a tool or a library says so in its last line and ends with LEFT_OUT. One that imports this module
-continues in the tests' Python: of the Python that tests/set_up/install.sh makes, the caller's and
-the system's, the one that lacks the fewest libraries of tests/lib/requirements.txt. As a script it
-prints this Python, the versions of the libraries, where install.sh makes its Python, and the lines
-of what is lacking, or with the word `own` the lines of what the Python that runs it lacks."""
+"""What the scripts of the tests share. They may import the package in python/. A script that lacks a tool or a library says so in its last
+line and ends with LEFT_OUT. One that imports this module continues in the tests' Python: of the Python that tests/set_up/install.sh makes,
+the caller's and the system's, the one that lacks the fewest libraries of tests/lib/requirements.txt. As a script it prints this Python, the
+versions of the libraries, where install.sh makes its Python, and the lines of what is lacking, or with the word `own` the lines of what the
+Python that runs it lacks."""
 
 import importlib.metadata
 import os
@@ -81,8 +80,7 @@ class Cases(unittest.TextTestResult):
 
 
 def run_tests():
-    """Runs the unit tests of the script that calls it, prints the counts of tests and of their
-    cases, and ends it."""
+    """Runs the unit tests of the script that calls it, prints the counts of tests and of their cases, and ends it."""
     runner = unittest.TextTestRunner(verbosity=0, resultclass=Cases)
     ran = unittest.main(exit=False, testRunner=runner).result
     failed, skipped = len(ran.failures) + len(ran.errors), [why for _, why in ran.skipped]

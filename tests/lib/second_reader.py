@@ -9,8 +9,7 @@ __all__ = ["Lattice", "Refused", "read"]
 
 
 class Lattice:
-    """A gas, a generation, and the rows of cells from the top: a state, or None for a solid
-    cell."""
+    """A gas, a generation, and the rows of cells from the top: a state, or None for a solid cell."""
 
     def __init__(self, gas, generation, rows):
         self.gas, self.generation, self.rows = gas, generation, rows
@@ -30,8 +29,7 @@ class Lattice:
 
 
 def read(text, most_cells):
-    """The lattice of the bytes of a text, None for an area of more cells than that, or the first
-    refusal as a Refused."""
+    """The lattice of the bytes of a text, None for an area of more cells than that, or the first refusal as a Refused."""
     table = keys_of(text)
     if "cells" not in table and table["width"] * table["height"] > most_cells:
         return None
@@ -70,8 +68,7 @@ def key_words(seed, stream, count):
 
 
 def chacha_block(seed, stream, block):
-    """The 16 words of a block of ChaCha20 under the key of a seed, with a 64-bit block number and a
-    64-bit stream number."""
+    """The 16 words of a block of ChaCha20 under the key of a seed, with a 64-bit block number and a 64-bit stream number."""
     start = [
         *struct.unpack("<4I", b"expand 32-byte k"),
         *struct.unpack("<8I", seed.to_bytes(8, "little") + bytes(24)),

@@ -79,8 +79,7 @@ def sound(d):
 
 
 def shear(d):
-    """4. The state of a uniform shear comes back after a generation, and its flux of momentum is
-    that of the viscosity."""
+    """4. The state of a uniform shear comes back after a generation, and its flux of momentum is that of the viscosity."""
     collide = np.eye(6) + boltzmann.collision_matrix("fhp1", d)
     state = lambda y: 2 * d * y * X - 2 * d / share(d) * X * Y
     is_close([(collide @ state(1 - y))[i] for i, y in enumerate(Y)], state(1))
@@ -119,8 +118,7 @@ def factor(d):
 
 
 def at_a_wave_number(d):
-    """A weak shear wave decays by the factor of its mode, with walls and without, and in a long
-    wave with the viscosity."""
+    """A weak shear wave decays by the factor of its mode, with walls and without, and in a long wave with the viscosity."""
     rows, size = 64, 1e-6
     k = np.pi / rows / GAS.row_distance
     wanted = slowest(factors_of("fhp1", d, (0, k)))
@@ -135,8 +133,7 @@ def at_a_wave_number(d):
 
 
 def at_the_edge(gas):
-    """Three waves at the edge of the zone of wave vectors never fade: the staggered momenta, one
-    per axis."""
+    """Three waves at the edge of the zone of wave vectors never fade: the staggered momenta, one per axis."""
     for angle in np.pi / 6 + np.pi / 3 * np.arange(3):
         wave = 2 * np.pi / 3**0.5 * np.array([np.cos(angle), np.sin(angle)])
         factors = factors_of(gas, 0.3, wave)
@@ -145,8 +142,7 @@ def at_the_edge(gas):
 
 
 def slip(gas, d, side, along):
-    """7. The stationary flow under a weak force: the staggered sum, the parabola, its place at the
-    wall, with the shares of the modes."""
+    """7. The stationary flow under a weak force: the staggered sum, the parabola, its place at the wall, with the shares of the modes."""
     rows, flow = 10, boltzmann.Flow(gas, np.zeros((10, 1)), side)
     x, mass = flow.gas.velocities[:, 0], flow.gas.directions * d
     staggered, kappa = staggered_of(len(x)), along == "rows"
@@ -250,8 +246,7 @@ def refuses(call, *words):
 
 
 def spread(gas, d, side):
-    """How a staggered momentum of the rows spreads along them and across: rate / k^2 near its wave
-    vector."""
+    """How a staggered momentum of the rows spreads along them and across: rate / k^2 near its wave vector."""
     k, edge = 2e-4, np.array([0, np.pi / GAS.row_distance])
     waves = edge + k * np.eye(2)
     factors = np.linalg.eigvals(boltzmann.generation_matrix(gas, d, waves, side))
@@ -260,8 +255,7 @@ def spread(gas, d, side):
 
 
 def grown(gas, d, side):
-    """By how much the viscosity grows with the logarithm of time, by momenta and by staggered
-    momenta."""
+    """By how much the viscosity grows with the logarithm of time, by momenta and by staggered momenta."""
     nu, more = theory.viscosity(gas, d, side), theory.bulk_viscosity(gas, d)
     both = np.array([1 / nu + 1 / (nu + more), 3 / np.sqrt(spread(gas, d, side).prod())])
     return 3**0.5 * (1 - 2 * d) ** 2 / (3072 * np.pi * d * (1 - d)) * both

@@ -1,8 +1,7 @@
 #!/usr/bin/env python3
-"""Runs the notebooks of notebooks/: no cell may fail or warn, and all texts must be those that the
-notebook keeps. The last section of the first one also runs with other values, which its text
-invites one to try. With --keep the notebook keeps what this run shows, with pictures of few
-colours. Ends with the counts."""
+"""Runs the notebooks of notebooks/: no cell may fail or warn, and all texts must be those that the notebook keeps. The last section of the
+first one also runs with other values, which its text invites one to try. With --keep the notebook keeps what this run shows, with pictures
+of few colours. Ends with the counts."""
 
 import base64
 import contextlib

@@ -25,8 +25,7 @@ TOLERANCE = 3  # root mean square of the difference of two pictures' colours, 0 
 
 
 def sections():
-    """Per section of the page its title, its pairs of commands and printed lines, and its
-    pictures."""
+    """Per section of the page its title, its pairs of commands and printed lines, and its pictures."""
     page = (needs.ROOT / "docs/EXPERIMENTS.md").read_text()
     for text in page.split("\n## ")[1:]:
         title, blocks = text.partition("\n")[0], BLOCK.findall(text)

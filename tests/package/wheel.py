@@ -102,8 +102,7 @@ class Room:
         check(command, is_right and status == command.startswith("explain"), out + err)
 
     def refuses(self, words, why, *folders, is_traced=False):
-        """A command that must end with one line that says why, which follows a traceback where
-        Python raised it."""
+        """A command that must end with one line that says why, which follows a traceback where Python raised it."""
         status, out, err = self.ran(words, folders)
         is_one = err.count("\n") == 1 or is_traced
         check(words, status and not out and is_one and why in err.split("\n")[-2], out + err)

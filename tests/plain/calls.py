@@ -36,8 +36,7 @@ SIZES = {  # what the calls that return sizes are given
 
 
 def ended(library, name, words):
-    """What a call returns, and copies of its arrays as it leaves them. The room in which `advance`
-    works, its last one, means nothing."""
+    """What a call returns, and copies of its arrays as it leaves them. The room in which `advance` works, its last one, means nothing."""
     words = [word.copy() if isinstance(word, np.ndarray) else word for word in words]
     status = library.call(name, *words)
     arrays = [word for word in words if isinstance(word, np.ndarray)]
