@@ -58,10 +58,10 @@ export class Drive {
 
   /** Brings a flow to the wind. Returns whether there were particles to turn. */
   act(flow) {
-    const { cells, kernel, gas: { units: [unit], momenta: [[east]], moves } } = flow;
+    const { cells, kernel, gas: { units: [unit], momenta: [[east]], opposite: [west] } } = flow;
     this.px += kernel.pushed();
     const wanted = ((this.wind ?? 0) * this.particles - this.px * unit) / 2, sign = Math.sign(wanted);
-    const west = moves.length / 2, from = sign > 0 ? west : 0, steps = Math.round(Math.abs(wanted));
+    const from = sign > 0 ? west : 0, steps = Math.round(Math.abs(wanted));
     this.velocity.add((this.px * unit) / (this.particles || 1));
     for (let kick = 0; kick < steps; kick++) {
       const at = cells.pick(this.draw, from, west - from);

@@ -28,7 +28,7 @@ export class Flows {
   async take(text) {
     try {
       const module = await moduleOf(text);
-      new Kernel(module, GASES.hpp, 1, 1); // of another version it throws
+      new Kernel(module, Object.values(GASES)[0], 1, 1); // of another version it throws
       this.make = (gas, width, height) => new Kernel(module, gas, width, height);
     } catch (refused) {
       return { fault: String(refused) };

@@ -1,36 +1,50 @@
-// The gases: their directions, and what a state is. docs/FORMATS.md has the rules. A state is a byte: a
-// bit per direction, counterclockwise from east, the seventh at rest, or SOLID.
+// The gases: one table, and what follows from it. docs/FORMATS.md has the rules. A state is a byte: a bit per
+// direction, counterclockwise from east, the ones at rest last, or SOLID.
 //
 // PLANES. A lattice has a bit per direction and cell, 32 cells to a word. Each row has an even number of words, so the
 // same memory is rows of 64 bits: the words of direction 0, then of direction 1, and so on, as in include/fhpgas.h.
 export const SOLID = 0x80;
 export const MOST_CELLS = 1 << 22; // of all lattices that are shown
-const ROOT3 = Math.sqrt(3);
+const HEXAGON = [[2, 0], [1, 1], [-1, 1], [-2, 0], [-1, -1], [1, -1]], UNITS = [1 / 2, Math.sqrt(3) / 2];
 
-// rows down to the cell that a particle comes from, and the columns that it moves from an even and from an odd row
-const HEXAGON = [[0, 1, 1], [1, 0, 1], [1, -1, 0], [0, -1, -1], [-1, -1, 0], [-1, 0, 1]];
-const SQUARE = [[0, 1, 1], [1, 0, 0], [0, -1, -1], [-1, 0, 0]];
-const HEXAGON_MOMENTA = [[2, 0], [1, 1], [-1, 1], [-2, 0], [-1, -1], [1, -1], [0, 0]];
-
-// `apart` is the distance of rows, `sound` the speed of sound; momenta of the directions are multiples of the two units
-const hexagonal = (name, number, directions) => ({ name, number, directions, moves: HEXAGON,
-  apart: ROOT3 / 2, sound: Math.sqrt(3 / directions), isHexagonal: true, units: [1 / 2, ROOT3 / 2],
-  momenta: HEXAGON_MOMENTA.slice(0, directions) });
-
-/** @typedef {ReturnType<typeof hexagonal>} Gas */
-/** @type {Record<string, Gas>} the gases by their names. The numbers are of include/fhpgas.h. */
-export const GASES = {
-  fhp1: hexagonal("fhp1", 0, 6),
-  hpp: { name: "hpp", number: 1, directions: 4, moves: SQUARE, apart: 1, sound: Math.SQRT1_2,
-    isHexagonal: false, units: [1, 1], momenta: [[1, 0], [0, 1], [-1, 0], [0, -1]] },
-  "fhp-rest": hexagonal("fhp-rest", 2, 7),
+/**
+ * All that the page knows of each gas: its number in include/fhpgas.h, the momenta of its directions eastwards and
+ * northwards, and their units. Of a fluid the share of a shear that collisions undo in a generation, as a multiple of
+ * d (1 - d)^3, and the fillings d at which measured viscosities exceed Boltzmann's by more than a tenth, as
+ * python/fhpgas/theory.py has them.
+ * @typedef {{ share: (d: number) => number, correlated: Record<string, number[]> }} Fluid
+ * @type {Record<string, { number: number, label: string, rule: string, momenta: number[][], units: number[], fluid?: Fluid }>}
+ */
+const TABLE = {
+  fhp1: { number: 0, label: "fhp1 (FHP-I)", rule: "six directions", momenta: HEXAGON, units: UNITS,
+    fluid: { share: () => 3, correlated: { seeded: [0, 0.19], left: [0, 0.2] } } },
+  "fhp-rest": { number: 2, label: "fhp-rest (FHP-II)", rule: "six and particles at rest", momenta: [...HEXAGON, [0, 0]],
+    units: UNITS, fluid: { share: (d) => 7 - 4 * d, correlated: { seeded: [0.08, 0.65], left: [0.05, 0.65] } } },
+  hpp: { number: 1, label: "HPP", rule: "four", momenta: [[1, 0], [0, 1], [-1, 0], [0, -1]], units: [1, 1] },
 };
+
+/** What follows: among others the distance of rows, the speed of sound, and the directions turned back. */
+function gasOf(name, row = TABLE[name]) {
+  const { momenta, units: [east, apart] } = row, isHexagonal = apart < 1, directions = momenta.length;
+  const sound = Math.sqrt(momenta.reduce((sum, [x]) => sum + (x * east) ** 2, 0) / directions);
+  const opposite = momenta.map(([x, y]) => momenta.findIndex(([px, py]) => px === -x && py === -y));
+  // rows down to the cell that a particle comes from, and the columns that it moves from an even and from an odd row
+  const columns = (x, y) => [0, 1].map((odd) => x * east + eastOf({ apart }, odd) - eastOf({ apart }, odd + y));
+  const moves = momenta.filter(([x, y]) => x || y).map(([x, y]) => [y, ...columns(x, y)]);
+  return { ...row, name, directions, apart, isHexagonal, sound, opposite, moves };
+}
+
+/** @typedef {ReturnType<typeof gasOf>} Gas */
+/** @type {Record<string, Gas>} the gases by their names */
+export const GASES = Object.fromEntries(Object.keys(TABLE).map((name) => [name, gasOf(name)]));
 
 /** @type {Record<Chirality, Chirality>} the chirality that undoes a collision. */
 export const OTHER = { left: "right", right: "left", seeded: "seeded" };
 
 /** How far a row of a gas lies to the east. */
-export const eastOf = ({ apart }, row) => (apart < 1 ? (row & 1) / 2 : 0);
+export function eastOf({ apart }, row) {
+  return apart < 1 ? (row & 1) / 2 : 0;
+}
 
 /** The particles' velocities by direction, eastwards and northwards. */
 export const velocities = ({ momenta, units }) => momenta.map(([x, y]) => [x * units[0], y * units[1]]);
@@ -39,10 +53,8 @@ export const velocities = ({ momenta, units }) => momenta.map(([x, y]) => [x * u
 export const table = (ofState) => Uint8Array.from({ length: 256 }, (_, state) => (state < SOLID ? ofState(state) : state));
 
 /** What turning all particles makes of every state. */
-export function turns({ moves: { length } }) {
-  const half = length / 2, moving = (1 << length) - 1;
-  return table((state) => (((state << half) | ((state & moving) >> half)) & moving) | (state & ~moving));
-}
+export const turns = ({ opposite }) =>
+  table((state) => opposite.reduce((turned, to, i) => turned | (state >> i & 1) << to, 0));
 
 /** The chances of Fermi and Dirac at a filling and a velocity: h and q are changed until number and momentum fit. */
 export function equilibrium(gas, filling, u = 0, v = 0) {

@@ -1,4 +1,5 @@
 // Help: a sentence for each control and number, as a title and in the list under ?.
+import { GASES } from "./gases.js";
 import { element } from "./state.js";
 
 export const KEY_NAMES = { " ": "space", ArrowLeft: "←", ArrowRight: "→", Enter: "↵", Backspace: "⌫" };
@@ -11,7 +12,7 @@ export const HELP = {
   developed: "Begins with a flow that has had its time to form, if one of this size, wind and obstacle is kept.",
   seed: "The number from which all random numbers of a start are drawn.",
   start: "Begins again with these values.", open: "Opens a scene from a file. It can be dropped or pasted too.",
-  gas: "The rules: fhp1 has six directions, fhp-rest also particles at rest, HPP four directions.",
+  gas: `The rules: ${Object.values(GASES).map(({ label, rule }) => `${label} has ${rule}`).join(", ")}.`,
   chirality: "To which side two particles that meet head-on turn. At random time cannot go back.",
   keep: "Turns a few particles in every generation, so that walls do not stop the wind.",
   wind: "The mean velocity eastwards, in cells per generation.",

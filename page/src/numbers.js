@@ -4,12 +4,6 @@ import { GASES } from "./gases.js";
 const FEW = 100; // particles that are no fluid
 export const MOST_MACH = 0.4; // above it the density follows the speed
 
-/** Where measured viscosities exceed Boltzmann's by more than a tenth, as python/fhpgas/theory.py has it. */
-export const CORRELATED = {
-  fhp1: { seeded: [0, 0.19], left: [0, 0.2] },
-  "fhp-rest": { seeded: [0.08, 0.65], left: [0.05, 0.65] },
-};
-
 const signed = (text) => text.replace(/^-(?=.*[1-9])/, "−").replace("-", "");
 const english = new Intl.NumberFormat("en"); // toLocaleString makes one at each call
 export const count = (value) => english.format(value);
@@ -21,8 +15,8 @@ export const round = (value, digits = 3) =>
  * Boltzmann's shear viscosity, (1 / lambda - 1/2) / 4: collisions undo the share lambda of a shear in a generation. It
  * has an imaginary part if all pairs turn to one side (Frisch and others, Complex Systems 1 (1987) 649).
  */
-export function viscosity(gas, d, chirality) {
-  const pairs = d * (1 - d) ** 3, re = (gas === "fhp1" ? 3 : 7 - 4 * d) * pairs;
+export function viscosity({ share }, d, chirality) {
+  const pairs = d * (1 - d) ** 3, re = share(d) * pairs;
   const im = chirality === "seeded" ? 0 : Math.sqrt(3) * pairs;
   return (re / (re * re + im * im) - 1 / 2) / 4;
 }
@@ -38,16 +32,16 @@ export const strouhal = (length, period, g, speed) => length / (period * g * spe
  *   reynolds?: number, isCorrelated?: boolean, turnover?: number, warnings: string[] }}
  */
 export function numbersOf({ gas, directions, particles, fluid, u, v, chirality, fastest }, length) {
-  const filling = particles / fluid / directions, speed = Math.hypot(u, v), { sound } = GASES[gas], warnings = [];
+  const filling = particles / fluid / directions, speed = Math.hypot(u, v), { sound, fluid: kind } = GASES[gas], warnings = [];
   const found = { filling, speed, mach: speed / sound, fastestMach: fastest / sound, warnings };
   if (found.fastestMach > MOST_MACH) {
     const fast = `Mach ${found.fastestMach.toFixed(2)} in the fastest block`;
     warnings.push(`${fast}: above ${MOST_MACH} the gas is no incompressible fluid.`);
   }
-  if (gas === "hpp") warnings.push("hpp is no fluid: it has no viscosity and no Reynolds number.");
-  if (gas === "hpp" || particles < FEW || !(filling > 0.01 && filling < 0.99)) return found;
-  const g = galilean(directions, filling), nu = viscosity(gas, filling, chirality), carried = Math.abs(g) * speed;
-  const [low, high] = CORRELATED[gas][chirality === "right" ? "left" : chirality];
+  if (!kind) warnings.push(`${gas} is no fluid: it has no viscosity and no Reynolds number.`);
+  if (!kind || particles < FEW || !(filling > 0.01 && filling < 0.99)) return found;
+  const g = galilean(directions, filling), nu = viscosity(kind, filling, chirality), carried = Math.abs(g) * speed;
+  const [low, high] = kind.correlated[chirality === "right" ? "left" : chirality];
   const isCorrelated = low < filling && filling < high, more = "more viscous than ν by a tenth or more";
   if (isCorrelated) warnings.push(`At this filling ${gas} is measured to be ${more}, so Reynolds is too high.`);
   const reynolds = length > 0 ? (carried * length) / nu : undefined, turnover = carried ? length / carried : undefined;

@@ -80,7 +80,7 @@ function paintMarks(c, { mark, generation, width, height, apart }, scale) {
 function paintDisc(c, [x, y], radius) {
   const r = Math.max(6, radius);
   for (const [colour, wide] of [["#fff", 6], ["#000", 2.5]]) {
-    for (const [dx, dy] of velocities(GASES.hpp)) {
+    for (const [dx, dy] of [[1, 0], [0, 1], [-1, 0], [0, -1]]) {
       line(c, [r, r + 9].map((at) => [x + at * dx, y + at * dy]), String(colour), Number(wide));
     }
     c.beginPath();
@@ -126,7 +126,7 @@ function paintCells(c, frame, scale, cells, { isCollided, glide }) {
       grid.moveTo(cx, cy);
       grid.lineTo(cx + dx * half, cy + dy * half);
     }
-    if (state & 64) dot(rest, cx, cy, 0.15 * scale);
+    if (state >> links.length) dot(rest, cx, cy, 0.15 * scale);
     const path = cells.before[at] === cells.after[at] ? still : meeting;
     links.forEach((link, i) => {
       if (!(state >> i & 1)) return;

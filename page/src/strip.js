@@ -1,6 +1,7 @@
 // The strip below the picture, and in it when it is saved: scale, wind, gas, legend.
 import { imageOf, line, nice, theme, within, write } from "./draw.js";
 import { FIELDS } from "./fields.js";
+import { GASES } from "./gases.js";
 import { count, fixed, round } from "./numbers.js";
 import { coloursOf } from "./picture.js";
 import { each, head, look } from "./state.js";
@@ -25,7 +26,7 @@ export function paintStrip(c, { width, top, stage }) {
 
 function paintWords(c, x, top, stage, wide) {
   const isNarrow = wide < 560, { u, wind, direction, cells, width, height, generation } = head();
-  const sides = ({ gas, chirality }) => (gas === "hpp" || isNarrow ? "" : `, pairs turn ${chirality === "seeded" ? "at random" : chirality}`);
+  const sides = ({ gas, chirality }) => (isNarrow || !GASES[gas].isHexagonal ? "" : `, pairs turn ${chirality === "seeded" ? "at random" : chirality}`);
   const arrow = Math.abs(u) < 0.005 && !wind ? "" : u < 0 ? "← wind" : "wind →";
   const way = [arrow, direction > 0 ? "" : isNarrow ? "back" : "on the way back"];
   if (cells) write(c, isNarrow ? stage : `${stage}: orange particles collide`, x, top + 22, { font: "14px" });

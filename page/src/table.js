@@ -1,6 +1,7 @@
 // The table of the controls: what each is called, its key, and what it does.
 import { FIELDS } from "./fields.js";
 import { isFilming } from "./files.js";
+import { GASES } from "./gases.js";
 import { count } from "./numbers.js";
 import { PRESETS } from "./presets.js";
 import { $, chosen, head, shown } from "./state.js";
@@ -8,7 +9,6 @@ import { $, chosen, head, shown } from "./state.js";
 const SIZES = ["4 x 3", "64 x 32", "256 x 128", "256 x 256", "256 x 384", "512 x 192", "512 x 256", "512 x 512",
   "512 x 768", "1024 x 384", "1024 x 512", "2048 x 512", "2048 x 1024", "3200 x 1016", "4096 x 1024"];
 const PACES = ["3 s", "1 s", "0.3 s", "5/s", "15/s", "60/s", "300/s", "most"]; // of a generation, or generations in one
-const GASES = [["fhp1", "fhp1 (FHP-I)"], ["fhp-rest", "fhp-rest (FHP-II)"], ["hpp", "HPP"]];
 const SIDES = [["left", "left"], ["right", "right"], ["seeded", "at random"]];
 export const BLOCKS = [[1, 0], [2, 0], [2, 2], [4, 2], [8, 2], [16, 2], [32, 2]]; // columns, and how often smoothed
 export const SPANS = [1, 3, 10, 30, 100, 300, 1000, 3000, 10000, 30000];
@@ -43,7 +43,7 @@ export const tableOf = (acts) => /** @type {any} */ ([
     half("Enter", "start", "Start", acts.start, { style: "wide main" }),
     half("o", "open", "Open", () => $("file").click())] },
   { title: "Change it, cells stay", place: "panel", controls: [
-    list("g", "gas", "gas", GASES, acts.gas, { isOff: () => isBack() || shown.frames.length > 1 }),
+    list("g", "gas", "gas", named(Object.keys(GASES), (name) => GASES[name].label), acts.gas, { isOff: () => isBack() || shown.frames.length > 1 }),
     list("c", "chirality", "pairs turn", SIDES, acts.chirality, { isOff: isBack }),
     check("j", "keep", "keep wind", acts.keep, { isOff: isBack }),
     slider("w", "wind", "wind u", [0, 0.4, 0.02], acts.wind, String, { isOff: isBack }),

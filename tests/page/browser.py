@@ -97,7 +97,7 @@ def begins(page):
     check("every control says what it does", not page.js(untold), page.js(untold))
     page.key("?")
     check(
-        "and a list too", "fhp-rest also particles at rest" in page.js("return $('help').innerText")
+        "and a list too", "fhp-rest (FHP-II) has six and particles at rest" in page.js("return $('help').innerText")
     )
     page.key("?")
     page.key("=")

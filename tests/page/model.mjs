@@ -18,7 +18,7 @@ import { Flow } from "../../page/src/flow.js";
 import { Flows } from "../../page/src/flows.js";
 import { Watched } from "../../page/src/frames.js";
 import { GASES, SOLID } from "../../page/src/gases.js";
-import { CORRELATED, numbersOf, strouhal, viscosity } from "../../page/src/numbers.js";
+import { numbersOf, strouhal, viscosity } from "../../page/src/numbers.js";
 import { periodOf } from "../../page/src/probe.js";
 import { readScene, sceneOf } from "../../page/src/scenes.js";
 import { drawn } from "../../page/src/starts.js";
@@ -215,9 +215,9 @@ tried("the wind after the way back", () => {
   [0, 1].forEach((turn) => (turn && flow.turn(), flow.advance(300)));
   check("back at the start u is that of its cells", flow.generation === 0 && flow.direction === 1 && frameOf(flow, 0).u === u, u);
 });
-near("ν of fhp1, seeded", viscosity("fhp1", 0.3, "seeded"), 1 / (12 * 0.3 * 0.7 ** 3) - 1 / 8, 1e-12);
-near("ν of fhp1, left", viscosity("fhp1", 0.3, "left"), 1 / (16 * 0.3 * 0.7 ** 3) - 1 / 8, 1e-12);
-near("ν of fhp-rest", viscosity("fhp-rest", 0.2, "seeded"), 1 / (28 * 0.2 * 0.8 ** 3 * (1 - 0.8 / 7)) - 1 / 8, 1e-12);
+near("ν of fhp1, seeded", viscosity(GASES.fhp1.fluid, 0.3, "seeded"), 1 / (12 * 0.3 * 0.7 ** 3) - 1 / 8, 1e-12);
+near("ν of fhp1, left", viscosity(GASES.fhp1.fluid, 0.3, "left"), 1 / (16 * 0.3 * 0.7 ** 3) - 1 / 8, 1e-12);
+near("ν of fhp-rest", viscosity(GASES["fhp-rest"].fluid, 0.2, "seeded"), 1 / (28 * 0.2 * 0.8 ** 3 * (1 - 0.8 / 7)) - 1 / 8, 1e-12);
 const street = { gas: "fhp-rest", directions: 7, fluid: 1000, particles: 1260, u: 0.299, v: 0, chirality: "seeded", fastest: 0.374 };
 const numbers = numbersOf(street, 160);
 near("g", numbers.g, 0.455, 0.0005);
@@ -228,8 +228,8 @@ check("its warning", numbers.warnings.some((text) => text.startsWith("Mach 0.57"
 near("Strouhal of the mean speed", strouhal(160, 2 * 2383, numbers.g, 0.299), 0.247, 0.001);
 near("Strouhal of the incoming speed", strouhal(160, 2 * 2383, numbers.g, 0.374), 0.198, 0.001);
 const theory = readFileSync(`${root}python/fhpgas/theory.py`, "utf8");
-for (const [gas, sides] of Object.entries(CORRELATED)) {
-  for (const [side, [low, high]] of Object.entries(sides)) {
+for (const [gas, { fluid }] of Object.entries(GASES)) {
+  for (const [side, [low, high]] of Object.entries(fluid?.correlated ?? {})) {
     const line = theory.split("\n").find((text) => text.includes(`("${gas}", "${side}"): (`));
     check(`the fillings at which ${gas} ${side} warns`, String(line?.match(/: \((.*)\),/)?.[1].split(", ").map(Number)) === `${low},${high}`, line);
   }
