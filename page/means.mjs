@@ -2,7 +2,7 @@
 import { writeFileSync } from "node:fs";
 import { maker } from "./built.mjs";
 import { BLOCK, meansText } from "./src/developed.js";
-import { Flows } from "./src/flows.js";
+import { Experiment } from "./src/experiment.js";
 import { PRESETS } from "./src/presets.js";
 
 const EVERY = 20; // generations from one measurement to the next
@@ -13,10 +13,10 @@ const FLOWS = [["vortex street", "3200 x 1016", 36000, 300], ["flow past a disc"
 const make = await maker();
 
 function measured([name, size, generations, last]) {
-  const { gases: [gas], shapes: [shape], chirality, wind, radius, keep, fill: filling } = PRESETS[name], flows = Object.assign(new Flows(), { make });
+  const { gases: [gas], shapes: [shape], chirality, wind, radius, keep, fill: filling } = PRESETS[name], experiment = Object.assign(new Experiment(), { make });
   const [width, height] = size.split(" x ").map(Number), start = { gas, shape, chirality, width, height, filling, wind, radius, keep };
-  flows.start({ flows: [{ ...start, seed: "1" }], state: "" });
-  const [{ flow }] = flows.watched;
+  experiment.start({ starts: [{ ...start, seed: "1" }], state: "" });
+  const [{ flow }] = experiment.watched;
   flow.advance(generations - last);
   const sums = flow.sums(...BLOCK), total = { numbers: new Float64Array(sums.numbers.length) };
   for (let g = 0; g < last; g += EVERY) {

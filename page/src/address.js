@@ -1,7 +1,7 @@
 // The address: after # it has the state of the controls, so that a link shows the same start.
 import { FIELDS } from "./fields.js";
-import { PRESETS, RENAMED } from "./presets.js";
-import { $, chosen, head, look, marks, shown } from "./state.js";
+import { RENAMED } from "./presets.js";
+import { $, chosen, head, look, marks, preset, shown } from "./state.js";
 
 export const OPENED = "opened"; // the address of a scene that was opened, which no address has
 const LOW = 480; // pixels of a phone on its side, and lattices that fill its width
@@ -26,9 +26,8 @@ export function setControl(id, value) {
   return isSet;
 }
 
-/** The state of the controls, the field, the place that one looks at, and the probe. */
 export function stateText() {
-  const state = new URLSearchParams({ scene: $("scene").value, field: chosen.field });
+  const state = new URLSearchParams({ scene: chosen.preset, field: chosen.field });
   for (const id of CONTROLS) state.set(id, valueOf(id));
   const rounded = (values) => values.map((value) => Number(value.toFixed(2))).join(" ");
   if (!look.isWhole) state.set("at", rounded([look.place.x, look.place.y, look.place.scale]));
@@ -41,15 +40,15 @@ export function applyState(text) {
   const state = new URLSearchParams(text), refused = /** @type {string[]} */ ([]);
   const take = (id) => state.has(id) && !setControl(id, state.get(id)) && refused.push(`${id}=${state.get(id)}`);
   take("scene");
-  const preset = PRESETS[$("scene").value];
-  for (const id of OF_PRESET) setControl(id, preset[id]);
-  setControl("gas", preset.gases[0]);
-  const flat = innerHeight < LOW ? FLAT[preset.size] : undefined;
-  setControl("size", innerHeight > innerWidth ? preset.tall : flat ?? preset.size);
+  chosen.preset = $("scene").value;
+  const { size, tall, gases: [gas], ...first } = preset(), flat = innerHeight < LOW ? FLAT[size] : undefined;
+  for (const id of OF_PRESET) setControl(id, first[id]);
+  setControl("gas", gas);
+  setControl("size", innerHeight > innerWidth ? tall : flat ?? size);
   if (state.has("seed")) setControl("developed", false); // an older link
   CONTROLS.forEach(take);
-  const field = state.get("field") ?? preset.field;
-  chosen.field = Object.hasOwn(FIELDS, field) ? field : preset.field;
+  const field = state.get("field") ?? first.field;
+  chosen.field = Object.hasOwn(FIELDS, field) ? field : first.field;
   if (chosen.field !== field) refused.push(`field=${field}`);
   /** Three numbers, of which the last is a size. */
   const numbers = (key) => {
@@ -58,18 +57,17 @@ export function applyState(text) {
     if (found) refused.push(`${key}=${state.get(key)}`);
     return null;
   };
-  return { hasLength: state.has("length"), at: numbers("at"), probe: numbers("probe"), runs: state.get("runs") ?? "", refused };
+  return { hasLength: state.has("length"), at: numbers("at"), probe: numbers("probe"), lengths: state.get("runs") ?? "", refused };
 }
 
-/** Whether the address is another than the page wrote. */
 export const isForeign = () => location.hash !== written;
 
-/** Whether what was drawn has room in an address. */
-export const isShort = () => head().runs.length < MOST_RUNS;
+export const isShort = () => head().lengths.length < MOST_RUNS;
 
 /** Writes the state, and what was drawn, into the address, without a step of the history. */
 export function writeAddress() {
-  const { runs } = head(), hash = shown.isOpened ? `#${OPENED}` : `#${stateText()}${runs && isShort() ? `&runs=${runs}` : ""}`;
+  const { lengths } = head(), drawn = lengths && isShort() ? `&runs=${lengths}` : "";
+  const hash = shown.isOpened ? `#${OPENED}` : `#${stateText()}${drawn}`;
   if (hash === written) return;
   location.replace(hash);
   written = location.hash;

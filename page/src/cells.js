@@ -27,7 +27,6 @@ export class Cells {
     return this.state(at) === SOLID;
   }
 
-  /** Whether a particle is in a direction of a cell. */
   has(at, i) {
     const { cells, per, width, gas: { directions } } = this.kernel, y = Math.floor(at / width), x = at - y * width;
     return (cells[(y * directions + i) * per + (x >> 5)] >>> x & 1) > 0;
@@ -101,7 +100,6 @@ export class Cells {
     return found;
   }
 
-  /** A cell's neighbours and the cell. */
   around(at) {
     const { width, height } = this, row = Math.floor(at / width), column = at - row * width;
     const rows = [row - 1, row, row + 1].filter((y) => y >= 0 && y < height);

@@ -8,7 +8,6 @@ const COLOURS = { u: "#2b8cd6", v: "#e0702a" }; // the style sheet has them too
 const PATIENCE = 500; // milliseconds between two searches for a period
 const found = { at: 0, samples: marks.samples, period: /** @type {ReturnType<typeof periodOf>} */ (null) };
 
-/** The period of the probe's flow across, searched for now and then. */
 function periodNow(turnover) {
   const now = performance.now();
   if (now - found.at > PATIENCE || found.samples !== marks.samples) {

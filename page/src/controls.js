@@ -12,6 +12,7 @@ import { $, element, setText } from "./state.js";
  */
 
 let isByPointer = false; // what was used last
+let all = /** @type {Control[]} */ ([]);
 
 /** @param {Control} control */
 function made({ id, key, label, kind, style = "", options = [], attributes = {} }) {
@@ -24,7 +25,6 @@ function made({ id, key, label, kind, style = "", options = [], attributes = {} 
   return element("label", { for: id, title: HELP[id] }, element("span", {}, name, shortcut), input, element("output", { for: id }));
 }
 
-/** Makes the controls, and lets them act. */
 export function makeControls(groups, changed) {
   for (const { title, place, controls } of groups) {
     const group = title ? element("fieldset", {}, element("legend", {}, title)) : $(place);
@@ -40,7 +40,7 @@ export function makeControls(groups, changed) {
       });
     }
   }
-  const all = groups.flatMap(({ controls }) => controls);
+  all = groups.flatMap(({ controls }) => controls);
   listen(new Map(all.map(({ key, id }) => [key, id])));
   return all;
 }
@@ -48,8 +48,8 @@ export function makeControls(groups, changed) {
 /** Changes an attribute, if it has another value: what does not change is not laid out again. */
 const set = (control, name, value) => control.getAttribute(name) === value || control.setAttribute(name, value);
 
-export function showControls(controls) {
-  for (const { id, kind, said, isPressed, isOff, isHidden, text } of controls) {
+export function showControls() {
+  for (const { id, kind, said, isPressed, isOff, isHidden, text } of all) {
     const control = $(id), words = text?.() ?? said?.(Number(control.value)) ?? "";
     if (isPressed) set(control, "aria-pressed", String(isPressed()));
     if (isOff) control.disabled = isOff();
@@ -71,7 +71,6 @@ function press(control, isBack) {
   for (const kind of ["input", "change"]) control.dispatchEvent(new Event(kind));
 }
 
-/** Whether a focused control wants a key for itself. */
 function isOwn({ tagName, type }, key) {
   if (tagName === "BUTTON" || type === "checkbox") return key === " " || key === "Enter";
   if (tagName === "SELECT") return key !== "Escape";

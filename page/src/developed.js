@@ -5,7 +5,6 @@ import { MEANS } from "./means.js";
 export const BLOCK = [32, 36]; // columns and rows
 const STEPS = [0.001, 0.006, 0.006]; // of the filling above that of all, and of the velocity
 
-/** The text of the means of sums over blocks. */
 export function meansText({ numbers }, { directions, units }, filling) {
   const bytes = [];
   for (let at = 0; at < numbers.length; at += 4) {

@@ -53,7 +53,6 @@ export function within(c, x, y, width, height, paint) {
   c.restore();
 }
 
-/** A round length that is at most this. */
 export function nice(length) {
   const power = 10 ** Math.floor(Math.log10(length));
   return (([5, 2, 1].find((k) => k * power <= length * 1.0001)) ?? 1) * power;

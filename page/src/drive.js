@@ -5,8 +5,7 @@ const MEMORY = 1000; // generations of a mean over time
 
 /** A mean over the last generations, of all if they are few. It is null before the first. */
 class Mean {
-  /** @type {number | null} */
-  found = null;
+  found = /** @type {number | null} */ (null);
   count = 0;
 
   add(value) {
@@ -16,8 +15,7 @@ class Mean {
 }
 
 export class Drive {
-  /** @type {number | null} */
-  wind = null;
+  wind = /** @type {number | null} */ (null);
   velocity = new Mean(); // of the particles before they are turned
   force = new Mean(); // momentum that was added per fluid cell and generation
   fluid = 0;

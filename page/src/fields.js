@@ -36,7 +36,6 @@ function speed({ u, v }, out) {
   for (let i = 0; i < out.length; i++) out[i] = Math.sqrt(u[i] * u[i] + v[i] * v[i]);
 }
 
-/** The part of the cells that differ from a twin. */
 function difference({ unlike, parts }, out) {
   const [cells] = parts;
   for (let i = 0; i < out.length; i++) out[i] = cells[i] ? (unlike?.[4 * i + 1] ?? 0) / cells[i] : NaN;
@@ -59,7 +58,6 @@ function vorticity({ columns, rows, width, height, gas: { apart }, tall, u, v },
   }
 }
 
-/** How far the filling is from its mean. */
 function density(means, out) {
   const [fluid, counts] = means.smoothed([0, 1]), { parts: [cells], gas: { directions }, middle } = means;
   for (let i = 0; i < out.length; i++) out[i] = cells[i] ? counts[i] / fluid[i] / directions - middle : NaN;
@@ -102,18 +100,15 @@ export class TimeMean {
   height = 1;
   middle = 0; // the mean filling
   times = 0; // that the parts are smoothed
-  /** @type {Float64Array[]} fluid cells, particles, momenta */
-  parts = [];
+  parts = /** @type {Float64Array[]} */ ([]); // fluid cells, particles, momenta
   /** @type {Float64Array[]} the same, smoothed, and one that a loop writes to. They are made when they are needed. */
   smooth = [];
   values = new Float64Array(0); // of the field that is shown
   u = this.values;
   v = this.u;
   pixels = new Uint8Array(0);
-  /** @type {Int32Array | null} the sums of the cells that differ from a twin */
-  unlike = null;
-  /** @type {Record<string, number>} the largest value of each field's colours */
-  ranges = {};
+  unlike = /** @type {Int32Array | null} */ (null); // the sums of the cells that differ from a twin
+  ranges = /** @type {Record<string, number>} */ ({}); // the largest value of each field's colours
 
   /** @param {Gas} gas @param {number} tall the height of the lattice */
   constructor(gas, tall) {
@@ -146,7 +141,6 @@ export class TimeMean {
     for (const part of [...this.parts.slice(2), this.u, this.v]) part.forEach((value, i) => (part[i] = -value));
   }
 
-  /** Some of the parts, smoothed over neighbours. */
   smoothed(which) {
     const { parts, smooth, columns, rows, times } = this;
     if (!times) return which.map((k) => parts[k]);

@@ -26,7 +26,6 @@ export function record(ended) {
   recorder.start(1000);
 }
 
-/** Takes scenes that are chosen, dropped or pasted. */
 export function takeScenes(open) {
   $("file").onchange = async ({ target }) => {
     const text = await target.files[0]?.text();

@@ -1,10 +1,10 @@
-// A gas that runs: its cells, the way back, and the drive.
-import { recede, reverse, undo } from "./back.js";
+// A gas that runs: its cells, the drive, and the way back, on which what was done to the cells is undone.
 import { Cells } from "./cells.js";
 import { Drive } from "./drive.js";
-import { SOLID, turns } from "./gases.js";
-import { History } from "./history.js";
+import { OTHER, SOLID, turns } from "./gases.js";
+import { CELL, History, WAS_SOLID } from "./history.js";
 import { copied, sidesOf } from "./kernel.js";
+import { count } from "./numbers.js";
 import { FINE, sumsOf, totalsOf } from "./sums.js";
 
 export class Flow {
@@ -12,14 +12,10 @@ export class Flow {
   changes = 0; // counts what happens to the cells
   isDisturbed = false; // something was changed on the way back
   late = new Set(); // strokes on the way back
-  /** @type {number | null} cells that differ from the first ones, once the gas is back */
-  found = null;
-  /** @type {string[]} what the page is to say */
-  notes = [];
-  /** @type {{ at: Place, generation: number } | null} the particle that was turned */
-  mark = null;
-  /** @type {Int32Array | null} the solid cells that the preset has */
-  shape = null;
+  found = /** @type {number | null} */ (null); // cells that differ from the first ones, once the gas is back
+  notes = /** @type {string[]} */ ([]); // what the page is to say
+  mark = /** @type {{ at: Place, generation: number } | null} */ (null); // the particle that was turned
+  shape = /** @type {Int32Array | null} */ (null); // the solid cells that the preset has
   summed = { changes: -1, totals: [0, 0, 0, 0] };
   history = new History();
 
@@ -50,7 +46,6 @@ export class Flow {
     this.kernel.wallsChanged();
   }
 
-  /** Goes on in another kernel, with the same cells. */
   moveTo(make) {
     this.kernel = this.cells.kernel = copied(this.kernel, make);
   }
@@ -84,7 +79,6 @@ export class Flow {
 
   // -- edits: what they flip is remembered with its generation
 
-  /** Flips bits of a cell now. */
   flip(at, bits) {
     if (this.direction < 0) this.isDisturbed = true;
     else if (this.canTurn) this.history.flip(this.generation, this.cells, at, bits);
@@ -110,7 +104,6 @@ export class Flow {
     return this.direction > 0;
   }
 
-  /** How pairs turn from here on. */
   setChirality(chirality) {
     if (!this.isForward()) return;
     const before = this.chirality, couldTurn = this.canTurn;
@@ -122,18 +115,8 @@ export class Flow {
 
   // -- time
 
-  turn() {
-    reverse(this);
-    this.found = null;
-    this.drive.keep(this.drive.wind); // its means are of another time
-    if (this.direction < 0) {
-      this.turnedAt = this.generation;
-      undo(this);
-    } else if (this.isDisturbed) this.begin();
-  }
-
   advance(generations) {
-    if (this.direction < 0) recede(this, generations);
+    if (this.direction < 0) this.recede(generations);
     else if (this.drive.wind === null) this.run(generations);
     else this.drive.blow(this, generations);
   }
@@ -145,6 +128,16 @@ export class Flow {
     if (this.direction > 0) this.found = null;
   }
 
+  turn() {
+    this.reverse();
+    this.found = null;
+    this.drive.keep(this.drive.wind); // its means are of another time
+    if (this.direction < 0) {
+      this.turnedAt = this.generation;
+      this.undo();
+    } else if (this.isDisturbed) this.begin();
+  }
+
   /** One generation back: all particles are turned for it. */
   back() {
     const { direction } = this;
@@ -152,4 +145,82 @@ export class Flow {
     this.advance(1);
     if (this.direction !== direction) this.turn();
   }
+
+  // -- the way back
+
+  /**
+   * All particles are turned. A generation collides and then moves, backwards it moves and then collides: so particles
+   * collide before they are turned, and at the end collide back, to the other side. docs/PROVED.md has the proof.
+   */
+  reverse() {
+    const { turned, sides, chirality, direction } = this, side = chirality === "left" ? sides.left : sides.right;
+    this.changes++;
+    this.kernel.change(direction > 0 ? side.map((state) => turned[state]) : turned.map((state) => side[state]));
+    this.chirality = OTHER[chirality];
+    this.direction *= -1;
+  }
+
+  /** Some generations back, to the start at most. */
+  recede(wanted) {
+    const { history, generation: first } = this;
+    while (first - this.generation < wanted) {
+      const next = Math.max(first - wanted, history.last?.generation ?? history.origin.generation);
+      this.run(this.generation - next);
+      this.undo();
+      if (this.generation <= history.origin.generation) return this.arrive();
+    }
+  }
+
+  /** The way back ends here: cells are compared. */
+  arrive() {
+    const { isCut, origin: { generation, kept } } = this.history;
+    const begins = `The way back begins at generation ${count(generation)}`;
+    if (isCut) this.notes.push(`${begins}: what was done before took more than 64 MB.`);
+    this.turn();
+    this.found = this.cells.differing(kept);
+    this.begin();
+  }
+
+  /** Undoes what was done in this generation. */
+  undo() {
+    for (let patch; (patch = this.history.pop(this.generation)); ) {
+      const { flips, turning } = patch, walls = wallsBefore(flips);
+      if (turning) this.turnOtherwise(turning);
+      else if (this.isDisturbed) this.undoWalls(walls);
+      else this.undoFlips(flips);
+      for (const stroke of [...patch.strokes, ...this.late]) for (const at of walls.keys()) stroke.flips.delete(at);
+      if (walls.size) this.kernel.wallsChanged();
+    }
+  }
+
+  turnOtherwise(chirality) {
+    this.reverse();
+    this.chirality = chirality;
+    this.reverse();
+  }
+
+  /** Cell by cell, since a collision and a turn need no neighbours. */
+  undoFlips(flips) {
+    const { turned, cells, chirality, sides: { left, right } } = this;
+    const [side, other] = chirality === "right" ? [right, left] : [left, right];
+    for (const flip of flips.reverse()) {
+      const place = Math.floor(flip / CELL), state = cells.state(place), before = side[turned[state]] ^ flip & 255;
+      cells.flip(place, state ^ turned[other[before]]);
+    }
+  }
+
+  /** Once cells have been disturbed, the particles that an edit moved are others, and only its obstacles are undone. */
+  undoWalls(walls) {
+    const { cells } = this, unlike = [...walls.keys()].filter((at) => cells.isSolid(at) !== walls.get(at));
+    if (!unlike.length) return;
+    this.reverse();
+    cells.rebuilt(unlike)?.flips.forEach((bits, at) => cells.flip(at, bits));
+    this.reverse();
+  }
+}
+
+/** Which cells were solid before, of those that became solid or fluid. */
+function wallsBefore(flips) {
+  const built = flips.filter((flip) => flip & SOLID).reverse();
+  return new Map(built.map((flip) => [Math.floor(flip / CELL), (flip & WAS_SOLID) > 0]));
 }

@@ -4,27 +4,24 @@ import { Flow } from "./flow.js";
 import { SOLID, velocities } from "./gases.js";
 import { copied } from "./kernel.js";
 import { blocks, keyStream } from "./keystream.js";
-import { runsOf } from "./runs.js";
-import { Stream } from "./stream.js";
+import { lengthsOf } from "./lengths.js";
+import { MeanVelocity } from "./velocity.js";
 import { sumsOf } from "./sums.js";
 import { flipOne } from "./tools.js";
 
 /** A flow as it is looked at. */
 export class Watched {
-  /** @type {Flow | null} the same gas without the turn of one particle */
-  twin = null;
-  /** @type {{ at: Place, places: number[] } | null} the disc of the probe */
-  disc = null;
-  runs = ""; // what was drawn
+  twin = /** @type {Flow | null} */ (null); // the same gas without the turn of one particle
+  disc = /** @type {{ at: Place, places: number[] } | null} */ (null); // the disc of the probe
+  lengths = ""; // what was drawn
   direction = 1; // of the means
-  /** @type {Place | null} where a particle was turned, to be compared */
-  cone = null;
+  cone = /** @type {Place | null} */ (null); // where a particle was turned, to be compared
 
   /** @param {Flow} flow */
   constructor(flow) {
     this.flow = flow;
     this.mean = new TimeMean(flow.gas, flow.cells.height);
-    this.stream = new Stream(flow);
+    this.velocity = new MeanVelocity(flow);
   }
 
   /** Turns a particle. The gas without this turn goes on beside, to be compared. */
@@ -67,7 +64,6 @@ export class Watched {
     this.disc = { at, places: this.flow.cells.near(at, at, radius) };
   }
 
-  /** The mean velocity over the disc of the probe. */
   get probed() {
     if (!this.disc) return null;
     const speeds = velocities(this.flow.gas), { at, places } = this.disc, sums = [0, 0, 0];
@@ -103,35 +99,34 @@ export class Watched {
     return mean;
   }
 
-  /** What the page is sent. */
   frame(view, generations) {
-    const { flow, stream } = this, { gas, cells, kernel, drive, history, chirality, seed, generation } = flow;
+    const { flow, velocity } = this, { gas, cells, kernel, drive, history, chirality, generation } = flow;
     const { direction, found, canTurn, mark, notes, shape } = flow, walls = cells.isBuilt ? kernel.solid.slice() : null;
-    if (direction !== this.direction) [this.mean, stream.mean].forEach((mean) => mean.turn());
+    if (direction !== this.direction) [this.mean, velocity.mean].forEach((mean) => mean.turn());
     this.direction = direction;
     if (walls) {
-      stream.look();
-      this.runs = shape ? runsOf(walls, shape) : "";
+      velocity.look();
+      this.lengths = shape ? lengthsOf(walls, shape) : "";
     }
     const sums = flow.sums(view.block, flow.tall(view.block));
-    if (generations || !stream.generations) stream.add(generations, sums);
+    if (generations || !velocity.generations) velocity.add(generations, sums);
     const mean = this.means(view, generations, sums), [fluid, particles, px, py] = flow.totals(), all = particles || 1;
     const [blown, force] = direction > 0 ? [drive.velocity.found, drive.force.found] : [null, null];
-    const { columns, rows, width, height, u, v } = stream.mean, { fastest, blockage, incoming } = stream;
+    const { columns, rows, width, height, u, v } = velocity.mean, { fastest, blockage, incoming } = velocity;
     cells.isBuilt = false;
     flow.notes = [];
     return {
       gas: gas.name, apart: gas.apart, directions: gas.directions, width: cells.width, height: cells.height,
-      per: kernel.per, chirality, seed, generation, direction, found, canTurn, mark, notes, fluid, particles,
+      per: kernel.per, chirality, generation, direction, found, canTurn, mark, notes, fluid, particles,
       origin: history.origin.generation, isCut: history.isCut,
       // means over time, before particles are turned, and of the momentum that is added per fluid cell and generation
       u: blown ?? (px * gas.units[0]) / all, force,
       v: (py * gas.units[1]) / all, wind: drive.wind,
-      fastest, blockage, incoming, flow: { columns, rows, width, height, u, v },
+      fastest, blockage, incoming, velocity: { columns, rows, width, height, u, v },
       field: view.field, ...mean.shown(view.field), middle: mean.middle, columns: mean.columns, rows: mean.rows,
       block: mean.width, blockRows: mean.height, cells: view.window && this.windowed(view.window),
       walls, // solid cells as a plane, if they changed
-      runs: this.runs, probe: this.probed,
+      lengths: this.lengths, probe: this.probed,
     };
   }
 }

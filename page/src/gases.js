@@ -9,9 +9,8 @@ const HEXAGON = [[2, 0], [1, 1], [-1, 1], [-2, 0], [-1, -1], [1, -1]], UNITS = [
 
 /**
  * All that the page knows of each gas: its number in include/fhpgas.h, the momenta of its directions eastwards and
- * northwards, and their units. Of a fluid the share of a shear that collisions undo in a generation, as a multiple of
- * d (1 - d)^3, and the fillings d at which measured viscosities exceed Boltzmann's by more than a tenth, as
- * python/fhpgas/theory.py has them.
+ * northwards, and their units. Of a fluid the share of a shear that collisions undo, as a multiple of d (1 - d)^3, and
+ * where measured viscosities exceed Boltzmann's by more than a tenth, as python/fhpgas/theory.py has it.
  * @typedef {{ share: (d: number) => number, correlated: Record<string, number[]> }} Fluid
  * @type {Record<string, { number: number, label: string, rule: string, momenta: number[][], units: number[], fluid?: Fluid }>}
  */
@@ -52,7 +51,6 @@ export const velocities = ({ momenta, units }) => momenta.map(([x, y]) => [x * u
 /** What is made of every state. A solid cell stays. */
 export const table = (ofState) => Uint8Array.from({ length: 256 }, (_, state) => (state < SOLID ? ofState(state) : state));
 
-/** What turning all particles makes of every state. */
 export const turns = ({ opposite }) =>
   table((state) => opposite.reduce((turned, to, i) => turned | (state >> i & 1) << to, 0));
 

@@ -14,8 +14,7 @@ export const CELL = 512, WAS_SOLID = 256;
  */
 
 export class History {
-  /** @type {Segment[]} */
-  segments = [];
+  segments = /** @type {Segment[]} */ ([]);
   isCut = false; // old patches were given up
   most = 64 * 2 ** 20; // bytes of patches that are kept
 
@@ -28,7 +27,6 @@ export class History {
     return this.segments[this.segments.length - 1];
   }
 
-  /** The last patch, if there is one. */
   get last() {
     while (this.segments.length > 1 && !this.top.patches.length) this.segments.pop();
     return this.top.patches[this.top.patches.length - 1];

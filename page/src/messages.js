@@ -12,8 +12,8 @@
  * @typedef {{ at: Place, radius: number }} Disc
  * @typedef {{ from: Place, to: Place, radius: number, solid: boolean, end?: boolean }} Piece a piece of a stroke
  * @typedef {{ gas: string, chirality: Chirality, width: number, height: number, filling: number, wind: number,
- *   keep: boolean, shape: string, radius: number, seed: string, runs?: string, isDeveloped?: boolean }} Start
- *   `runs` has the cells that are solid, or fluid, unlike in the shape
+ *   keep: boolean, shape: string, radius: number, seed: string, lengths?: string, isDeveloped?: boolean }} Start
+ *   `lengths` has the cells that are solid, or fluid, unlike in the shape
  * @typedef {[left: number, top: number, width: number, height: number]} Box
  * @typedef {{ field: string, block: number, smooth: number, span: number, window: Box | null }} View
  *   what is looked at: blocks of so many columns, how often smoothed, a mean over so many generations
@@ -23,18 +23,11 @@
  * What the page says, by name. `engine` has a kernel's module in base64; `state` is the state of the controls, for the
  * address; `seen` says that a frame was painted.
  * @typedef {{
- *   engine: { text: string, isProved: boolean },
- *   start: { flows: Start[], state: string, asked?: number },
- *   open: { text: string, state: string },
- *   run: { on: boolean, pace: number },
- *   step: {}, back: {}, turn: {}, undo: {}, clear: {}, save: {}, seen: {},
- *   hash: { isWanted: boolean },
- *   view: View,
- *   chirality: { chirality: Chirality },
- *   gas: { gas: string, flows: Start[], state: string },
- *   keep: { wind: number | null },
- *   stroke: Piece,
- *   dense: Disc, flip: Disc, probe: Disc,
+ *   engine: { text: string, isProved: boolean }, open: { text: string, state: string },
+ *   start: { starts: Start[], state: string, asked?: number }, gas: { gas: string, starts: Start[], state: string },
+ *   chirality: { chirality: Chirality }, keep: { wind: number | null }, run: { on: boolean, pace: number },
+ *   step: {}, back: {}, turn: {}, undo: {}, clear: {}, save: {}, seen: {}, hash: { isWanted: boolean },
+ *   view: View, stroke: Piece, dense: Disc, flip: Disc, probe: Disc,
  * }} Commands
  */
 
@@ -45,8 +38,7 @@
  *   engine: { fault: string, isProved: boolean },
  *   frames: { frames: Frame[], isRunning: boolean, serial: number, asked: number, state: string, strokes: number,
  *     canUndo: boolean, hashes?: string[] },
- *   files: { files: { text: string, name: string }[] },
- *   hashes: { hashes: string[] },
+ *   files: { files: { text: string, name: string }[] }, hashes: { hashes: string[] },
  *   fault: { fault: string, isRefused: boolean },
  * }} Answers
  * @typedef {<K extends keyof Commands>(name: K, value: Commands[K]) => void} Tell

@@ -5,8 +5,7 @@ import { $, amount, each, element, head, setText, shown } from "./state.js";
 /** What the page says of its kernel, and of the length of Re. */
 export const said = { engine: "", length: "" };
 
-/** Frames and updates per second of the last frames. */
-export function speeds() {
+function speeds() {
   const { times, frames, isRunning } = shown, first = times[0], last = times[times.length - 1];
   const gone = last ? (last[0] - first[0]) / 1000 : 0;
   const cells = frames.reduce((sum, { width, height }) => sum + width * height, 0);

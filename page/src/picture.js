@@ -9,7 +9,6 @@ const FAINT = 0.3; // the field behind single cells
 const MOST_PIXELS = 16000; // across a canvas
 const WALL = (255 << 24) | (0x8c << 16) | (0x82 << 8) | 0x78; // the style sheet's --wall
 
-/** The colours of a field, in the scheme of the page. */
 export const coloursOf = (name) => FIELDS[name].palette[theme.isDark ? FIELDS[name].palette.length - 1 : 0];
 
 /** What is kept of a lattice from frame to frame. `walls` are its solid cells, and where they are. */

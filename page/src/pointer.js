@@ -1,5 +1,9 @@
 // Mouse and fingers on the picture: one draws or moves, two zoom. Keys do the same.
+import { zoom } from "./look.js";
+import { repaint } from "./screen.js";
 import { GAP, $, amount, chosen, look, marks, paneWidth, shown, view } from "./state.js";
+import { tell } from "./wire.js";
+import { hideNote } from "./words.js";
 
 const ARROWS = { ArrowLeft: [-1, 0], ArrowRight: [1, 0], ArrowUp: [0, -1], ArrowDown: [0, 1] };
 const FINGER = 12; // pixels that the first of two fingers may move before the second comes
@@ -20,13 +24,6 @@ function placeOf({ x, y }) {
   return [place.x + (x - pane * each) / place.scale, place.y + y / place.scale];
 }
 
-/** Zooms about a point of the canvas, and moves it to another. */
-export function zoom(factor, from, to = from) {
-  const { x, y, scale: old } = look.place, scale = Math.max(0.1, Math.min(200, old * factor));
-  look.place = { scale, x: x + from.x / old - to.x / scale, y: y + from.y / old - to.y / scale };
-  look.isWhole = false;
-}
-
 /** One of two fingers has moved: the picture stays beneath both. */
 function pinch(moved, before, now) {
   const [other] = [...gesture.fingers].filter(([id]) => id !== moved).map(([, finger]) => finger);
@@ -35,18 +32,14 @@ function pinch(moved, before, now) {
   zoom(distance(now) / distance(before), middle(before), middle(now));
 }
 
-/** @param {Tell} tell @param {Disc} disc */
-export function setProbe(tell, disc) {
+/** @param {Disc} disc */
+export function setProbe(disc) {
   Object.assign(marks, { probe: disc, samples: [] });
   $("probed").hidden = false;
   tell("probe", disc);
 }
 
-/**
- * Listens to the picture.
- * @param {{ tell: Tell, looked: () => void, repaint: () => void, hideNote: () => void }} ways
- */
-export function listenToPointers({ tell, looked, repaint, hideNote }) {
+export function listenToPointers() {
   const canvas = view();
   const pointOf = ({ clientX, clientY }) => {
     const box = canvas.getBoundingClientRect();
@@ -64,7 +57,7 @@ export function listenToPointers({ tell, looked, repaint, hideNote }) {
     const radius = amount("brush");
     if (chosen.tool === "dense") tell("dense", { at, radius: radius + 10 });
     if (chosen.tool === "flip") tell("flip", { at, radius: 1 });
-    if (chosen.tool === "probe") setProbe(tell, { at, radius: Math.max(radius, 4) });
+    if (chosen.tool === "probe") setProbe({ at, radius: Math.max(radius, 4) });
     else marks.touched = { at, radius };
     repaint();
   };
@@ -95,7 +88,6 @@ export function listenToPointers({ tell, looked, repaint, hideNote }) {
     }
     if (gesture.fingers.size > 1) pinch(event.pointerId, before, now);
     else if (gesture.isMoving) zoom(1, before, now);
-    looked();
   };
   canvas.onpointerup = canvas.onpointercancel = (event) => {
     gesture.fingers.delete(event.pointerId);
@@ -103,9 +95,7 @@ export function listenToPointers({ tell, looked, repaint, hideNote }) {
   };
   canvas.addEventListener("wheel", (event) => {
     event.preventDefault();
-    if (!shown.frames.length) return;
-    zoom(Math.exp(-event.deltaY / 400), pointOf(event));
-    looked();
+    if (shown.frames.length) zoom(Math.exp(-event.deltaY / 400), pointOf(event));
   }, { passive: false });
   // arrows move the picture, or a mark at which Space or Enter use the tool
   canvas.onkeydown = ({ key, shiftKey }) => {
@@ -113,10 +103,7 @@ export function listenToPointers({ tell, looked, repaint, hideNote }) {
     const middle = { x: paneWidth(canvas.clientWidth) / 2, y: canvas.clientHeight / 3 };
     if (!shown.frames.length || (!(x || y) && key !== " " && key !== "Enter")) return;
     const [east, south] = marks.cursor?.at ?? placeOf(middle), isStroke = chosen.tool === "draw" || chosen.tool === "erase";
-    if (chosen.tool === "move") {
-      zoom(1, { x: far * x, y: far * y }, { x: 0, y: 0 });
-      return looked();
-    }
+    if (chosen.tool === "move") return zoom(1, { x: far * x, y: far * y }, { x: 0, y: 0 });
     marks.cursor = { at: [east + (x * far) / scale, south + (y * far) / scale], radius: amount("brush") };
     if (x || y) repaint();
     else if (isStroke) draw(marks.cursor.at, true);

@@ -97,7 +97,6 @@ export function flowOf(make, scene) {
   return flow;
 }
 
-/** The rows of cells, each between two texts. */
 function lines({ cells }, before, after) {
   const spelled = Array.from(cells.states(), (state) => SPELLED[state]), rows = [];
   for (let at = 0; at < spelled.length; at += cells.width) rows.push(spelled.slice(at, at + cells.width).join(""));

@@ -2,7 +2,7 @@
 import { fillDeveloped, meansOf } from "./developed.js";
 import { Flow } from "./flow.js";
 import { GASES, SOLID, eastOf, equilibrium } from "./gases.js";
-import { bitsOf } from "./runs.js";
+import { bitsOf } from "./lengths.js";
 import { fillStates } from "./scenes.js";
 import { dense } from "./tools.js";
 
@@ -29,7 +29,7 @@ function putGrains({ drive, cells }, states, tall, radius) {
 }
 
 export function drawn(make, start) {
-  const { gas: name, chirality, width, height, filling, wind, keep, shape, radius, seed, runs = "", isDeveloped } = start;
+  const { gas: name, chirality, width, height, filling, wind, keep, shape, radius, seed, lengths = "", isDeveloped } = start;
   const gas = GASES[name], tall = (height - 1) * gas.apart, states = new Uint8Array(width * height);
   const flow = new Flow(make(gas, width, height), { chirality, seed, generation: 0, wind: keep ? wind : null });
   const all = (isInside, change) => {
@@ -43,7 +43,7 @@ export function drawn(make, start) {
   flow.cells.fill(states);
   flow.shape = flow.kernel.solid.slice();
   const across = 32 * flow.kernel.per;
-  for (const bit of bitsOf(runs, across * height)) {
+  for (const bit of bitsOf(lengths, across * height)) {
     if (bit % across < width) states[Math.floor(bit / across) * width + (bit % across)] ^= SOLID;
   }
   const developed = isDeveloped ? meansOf(start) : null;

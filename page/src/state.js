@@ -1,4 +1,5 @@
 // What the page shows and does now.
+import { PRESETS } from "./presets.js";
 
 export const NEAR = 10; // pixels across a cell from which single cells are shown
 export const GAP = 16; // pixels between two pictures
@@ -19,7 +20,12 @@ export const shown = {
 /** Where one looks: the place at the upper left, and pixels per cell. What was sent of it. */
 export const look = { place: { x: 0, y: 0, scale: 0 }, isWhole: true, sent: "" };
 
-export const chosen = { field: "vorticity", tool: "move" };
+export const chosen = { preset: "", field: "vorticity", tool: "move" };
+export const preset = () => PRESETS[chosen.preset];
+
+/** What was asked of the worker: starts, of which it may not have made the last, and what an address wants of it. */
+export const asked = { starts: 0, at: /** @type {number[] | null} */ (null),
+  probe: /** @type {number[] | null} */ (null), refused: /** @type {string[]} */ ([]) };
 
 /** A generation in pictures: phase 0 before the collision, 1 after it, 2 at its end. */
 export const motion = { phase: 0, isOn: false, begun: 0, span: 0 };
@@ -46,7 +52,6 @@ export function element(tag, attributes, ...children) {
   return made;
 }
 
-/** Changes the text of a node, if it is another. */
 export function setText(node, text) {
   if (node.textContent !== text) node.textContent = text;
 }
@@ -58,5 +63,4 @@ export const setWords = (node, text) =>
 /** Each value once, of all pictures. */
 export const each = (text) => [...new Set(shown.frames.map(text))].join(" | ");
 
-/** The width of each picture. */
 export const paneWidth = (width) => (width - GAP * (shown.frames.length - 1)) / shown.frames.length;

@@ -4,7 +4,7 @@ import { isFilming } from "./files.js";
 import { GASES } from "./gases.js";
 import { count } from "./numbers.js";
 import { PRESETS } from "./presets.js";
-import { $, chosen, head, shown } from "./state.js";
+import { $, chosen, head, preset, shown } from "./state.js";
 
 const SIZES = ["4 x 3", "64 x 32", "256 x 128", "256 x 256", "256 x 384", "512 x 192", "512 x 256", "512 x 512",
   "512 x 768", "1024 x 384", "1024 x 512", "2048 x 512", "2048 x 1024", "3200 x 1016", "4096 x 1024"];
@@ -13,7 +13,7 @@ const SIDES = [["left", "left"], ["right", "right"], ["seeded", "at random"]];
 export const BLOCKS = [[1, 0], [2, 0], [2, 2], [4, 2], [8, 2], [16, 2], [32, 2]]; // columns, and how often smoothed
 export const SPANS = [1, 3, 10, 30, 100, 300, 1000, 3000, 10000, 30000];
 
-const hasCone = () => chosen.field === "difference" || PRESETS[$("scene").value].flips;
+const hasCone = () => chosen.field === "difference" || preset().flips;
 const isBare = () => document.body.classList.contains("bare");
 const isBack = () => head()?.direction < 0; // controls that would change the rules wait
 const cells = (value) => `${count(value)} cell${value > 1 ? "s" : ""}`;

@@ -7,8 +7,7 @@ const NEAREST = "went to the nearest free places of their direction";
 
 /** Draws and erases: what a stroke flipped, so that it can be undone, and what it changed. */
 export class Stroke {
-  /** @type {Map<number, number>} bits by cell */
-  flips = new Map();
+  flips = /** @type {Map<number, number>} */ (new Map()); // bits by cell
   before = -1; // the flow's changes before the stroke, and after it
   after = -1;
   isMixed = false; // with other changes

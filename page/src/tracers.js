@@ -7,7 +7,7 @@ const STREAK = 14; // pixels of the fastest streak
 const STILL = 0.004; // cells per generation: a slower mean flow is noise
 
 /** The mean velocity of a frame at a place, east and down. */
-function velocityAt({ flow: { columns, rows, width, height, u, v }, apart }, [x, y]) {
+function velocityAt({ velocity: { columns, rows, width, height, u, v }, apart }, [x, y]) {
   const row = Math.max(0, Math.min(rows - 1, Math.floor(y / apart / height)));
   const at = row * columns + Math.min(columns - 1, Math.floor(x / width));
   return [u[at], -v[at]];
@@ -17,8 +17,7 @@ function velocityAt({ flow: { columns, rows, width, height, u, v }, apart }, [x,
 const anywhere = ({ width, height, apart }) => [Math.random() * width, Math.random() * (height - 1) * apart];
 
 export class Tracers {
-  /** @type {Place[]} */
-  places = [];
+  places = /** @type {Place[]} */ ([]);
   generation = 0;
 
   spread(frame) {
@@ -38,7 +37,6 @@ export class Tracers {
     });
   }
 
-  /** Paints streaks along the flow. */
   paint(c, frame, scale) {
     const long = STREAK / Math.max(frame.fastest, 0.05), { width, height, apart } = frame;
     if (frame.fastest < STILL) return;

@@ -1,5 +1,5 @@
 // The worker: takes the page's commands between generations, advances the gas and sends frames.
-import { Flows } from "./flows.js";
+import { Experiment } from "./experiment.js";
 import { printed, sceneOf } from "./scenes.js";
 import { dense } from "./tools.js";
 
@@ -13,16 +13,16 @@ async function hashOf(flow) {
   return Array.from(new Uint8Array(digest), (byte) => byte.toString(16).padStart(2, "0")).join("");
 }
 
-/** @type {(work: Work, flows: Flows) => { [K in keyof Commands]: (value: Commands[K]) => any }} what commands do */
-const actsOf = (work, flows) => ({
-  engine: async ({ text, isProved }) => work.post("engine", { isProved, ...(await flows.take(text)) }),
+/** @type {(work: Work, experiment: Experiment) => { [K in keyof Commands]: (value: Commands[K]) => any }} what commands do */
+const actsOf = (work, experiment) => ({
+  engine: async ({ text, isProved }) => work.post("engine", { isProved, ...(await experiment.take(text)) }),
   start: (command) => {
-    flows.start(command);
+    experiment.start(command);
     work.rest();
   },
   open: (command) => {
     try {
-      flows.open(command);
+      experiment.open(command);
       work.rest();
     } catch (fault) {
       work.post("fault", { fault: /** @type {Error} */ (fault).message, isRefused: true });
@@ -30,30 +30,29 @@ const actsOf = (work, flows) => ({
   },
   run: ({ on, pace }) => Object.assign(work, { isRunning: on, pace, since: performance.now() }),
   step: () => (work.isStep = true),
-  back: () => flows.turn((flow) => flow.back()),
-  turn: () => flows.turn((flow) => flow.turn()),
-  undo: () => flows.undo(),
-  clear: () => flows.clear(),
+  back: () => experiment.turn((flow) => flow.back()),
+  turn: () => experiment.turn((flow) => flow.turn()),
+  undo: () => experiment.undo(),
+  clear: () => experiment.clear(),
   save: () => work.save(),
   seen: () => work.sent--,
   hash: ({ isWanted }) => (work.isHashWanted = isWanted),
   view: (view) => (work.view = view),
-  chirality: ({ chirality }) => flows.each((flow) => flow.setChirality(chirality)),
-  gas: (command) => flows.changeGas(command),
-  keep: ({ wind }) => flows.each((flow) => flow.isForward() && flow.drive.keep(wind)),
+  chirality: ({ chirality }) => experiment.each((flow) => flow.setChirality(chirality)),
+  gas: (command) => experiment.changeGas(command),
+  keep: ({ wind }) => experiment.each((flow) => flow.isForward() && flow.drive.keep(wind)),
   stroke: (piece) => {
     work.pieces++;
-    flows.each((flow) => flows.stroke(flow, piece));
+    experiment.each((flow) => experiment.stroke(flow, piece));
   },
-  dense: (disc) => flows.each((flow) => dense(flow, disc)),
-  flip: ({ at }) => flows.watched.forEach((watched) => watched.flip(flows.make, at)),
-  probe: (disc) => flows.watched.forEach((watched) => watched.probe(disc)),
+  dense: (disc) => experiment.each((flow) => dense(flow, disc)),
+  flip: ({ at }) => experiment.watched.forEach((watched) => watched.flip(experiment.make, at)),
+  probe: (disc) => experiment.watched.forEach((watched) => watched.probe(disc)),
 });
 
 class Work {
-  flows = new Flows();
-  /** @type {{ name: keyof Commands, value: any }[]} */
-  queue = [];
+  experiment = new Experiment();
+  queue = /** @type {{ name: keyof Commands, value: any }[]} */ ([]);
   /** @type {View} */
   view = { field: "vorticity", block: 8, smooth: 2, span: 1, window: null };
   isRunning = false;
@@ -71,14 +70,13 @@ class Work {
   isHashWanted = false;
   wanted = {}; // the last hash
   channel = new MessageChannel();
-  acts = actsOf(this, this.flows);
+  acts = actsOf(this, this.experiment);
 
   /** @template {keyof Answers} K @param {K} name @param {Answers[K]} value */
   post(name, value) {
     postMessage({ name, value });
   }
 
-  /** Waits for the word to run. */
   rest() {
     Object.assign(this, { isRunning: false, isStep: false, generations: 0, most: 1 });
   }
@@ -104,7 +102,7 @@ class Work {
   }
 
   get canMove() {
-    return this.flows.watched.length > 0 && (this.isRunning || this.isStep) && this.sent < AHEAD;
+    return this.experiment.watched.length > 0 && (this.isRunning || this.isStep) && this.sent < AHEAD;
   }
 
   async work() {
@@ -114,7 +112,7 @@ class Work {
       try {
         for (const { name, value } of this.queue.splice(0)) await this.act(name, value);
         if (this.canMove && this.due) this.advance();
-        if (this.isNew && this.flows.watched.length) this.frame();
+        if (this.isNew && this.experiment.watched.length) this.frame();
       } catch (fault) {
         this.rest();
         this.post("fault", { fault: /** @type {Error} */ (fault).message, isRefused: false });
@@ -130,7 +128,7 @@ class Work {
   }
 
   advance() {
-    const { due: generations, most, isStep, pace, drawn, flows: { watched } } = this, begun = performance.now();
+    const { due: generations, most, isStep, pace, drawn, experiment: { watched } } = this, begun = performance.now();
     this.since = isStep || generations === most ? begun : this.since + 1000 * generations / pace;
     this.isStep = false;
     this.generations += generations;
@@ -142,7 +140,7 @@ class Work {
   }
 
   frame() {
-    const { flows: { watched, serial, asked, state, past, make }, isRunning, pieces: strokes } = this;
+    const { experiment: { watched, serial, asked, state, past, make }, isRunning, pieces: strokes } = this;
     if (this.view.field === "difference") watched.forEach((one) => one.renew(make));
     const begun = performance.now(), frames = watched.map((one) => one.frame(this.view, this.generations));
     this.drawn = performance.now() - begun;
@@ -154,7 +152,7 @@ class Work {
 
   save() {
     const nameOf = ({ gas, generation }) => `${gas.name}-${generation}`;
-    this.post("files", { files: this.flows.watched.map(({ flow }) => ({ text: sceneOf(flow), name: nameOf(flow) })) });
+    this.post("files", { files: this.experiment.watched.map(({ flow }) => ({ text: sceneOf(flow), name: nameOf(flow) })) });
   }
 
   /** Hashes the cells that are shown, once they stay. */
@@ -162,7 +160,7 @@ class Work {
     const wanted = (this.wanted = {});
     await new Promise((go) => setTimeout(go, 200));
     if (wanted !== this.wanted || this.isRunning || this.isBusy) return;
-    const hashes = await Promise.all(this.flows.watched.map(({ flow }) => hashOf(flow)));
+    const hashes = await Promise.all(this.experiment.watched.map(({ flow }) => hashOf(flow)));
     if (wanted === this.wanted) this.post("hashes", { hashes });
   }
 }

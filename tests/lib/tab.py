@@ -23,7 +23,7 @@ WORDS = (
 )
 FILE = needs.ROOT / "page/fhpgas.html"
 PATIENCE = 600  # seconds: far more than anything takes, and nothing here depends on it
-NAMES = "const { $, chosen, live, look, marks, motion, said, shown, speeds } = fhpgas, head = fhpgas.head(), view = $('view');"
+NAMES = "const { $, chosen, look, marks, motion, notes, said, screen, shown } = fhpgas, head = fhpgas.head(), view = $('view');"
 
 
 class Late(Exception):
@@ -65,7 +65,7 @@ class Page:
         end = time.monotonic() + PATIENCE
         while not (found := self.js(f"return {condition}")):
             if time.monotonic() > end:
-                raise Late(f"{condition} did not come: {self.js('return live.notes')}")
+                raise Late(f"{condition} did not come: {self.js('return notes')}")
             time.sleep(0.02)
         return found
 
@@ -108,7 +108,7 @@ class Page:
     def drag(self, tool, *places, waits=True):
         """Draws a line over places of the lattice with a tool, and waits until the page says what came of it."""
         self.click(tool)
-        notes = self.js("return live.notes.length")
+        notes = self.js("return notes.length")
         width, height = self.js("return [view.clientWidth, view.clientHeight]")
         chain = ActionChains(self.driver, duration=50)
         for number, place in enumerate(places):
@@ -117,7 +117,7 @@ class Page:
             chain.move_to_element_with_offset(self.view, x, y)
             chain = chain if number else chain.click_and_hold()
         chain.release().perform()
-        self.wait(f"live.notes.length > {notes}" if waits else "!live.isScheduled")
+        self.wait(f"notes.length > {notes}" if waits else "!screen.isScheduled")
 
     def touch(self, *moments):
         """Moves fingers over the picture: for each moment their places in it."""

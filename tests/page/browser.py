@@ -59,16 +59,10 @@ def begins(page):
     moved = page.js("return performance.getEntriesByName('moved')[0]")
     check("one of the first two pictures has moved", moved["detail"] <= 2, moved["detail"])
     print(f"first motion after {moved['startTime']:.0f} ms")
-    wanted = "proved" if (FILE.parent / "engine.js").exists() else "plain"
+    wanted = "The proved" if (FILE.parent / "engine.js").exists() else "The kernel"
     check(
         "the kernel is the one that is there, and the page says which",
-        page.wait("live.engine") == wanted,
-    )
-    check(
-        "it says so",
-        page.js("return said.engine").startswith(
-            {"proved": "The proved", "plain": "The kernel"}[wanted]
-        ),
+        page.wait(f"said.engine.startsWith('{wanted}')"),
     )
     look = "return [...view.getContext('2d').getImageData(0, 0, view.width, 300).data].reduce((a, b, i) => (a * 31 + b * (i % 7)) | 0, 0)"
     first = page.js(look)
@@ -97,7 +91,8 @@ def begins(page):
     check("every control says what it does", not page.js(untold), page.js(untold))
     page.key("?")
     check(
-        "and a list too", "fhp-rest (FHP-II) has six and particles at rest" in page.js("return $('help').innerText")
+        "and a list too",
+        "fhp-rest (FHP-II) has six and particles at rest" in page.js("return $('help').innerText"),
     )
     page.key("?")
     page.key("=")
@@ -121,7 +116,7 @@ def edits(page):
     )
     check(
         "an obstacle is drawn while it runs",
-        "particles were beneath" in page.js("return live.notes.at(-1)"),
+        "particles were beneath" in page.js("return notes.at(-1)"),
     )
     page.click("undo")
     page.wait(f"head.width * head.height - head.fluid === {solid}")
@@ -138,7 +133,7 @@ def edits(page):
     )
     page.js("fhpgas.worker.onmessage = kept, held.forEach(kept)")
     link, solid = page.wait(
-        "!marks.pieces.length && head.runs && location.hash.endsWith(`&runs=${head.runs}`)"
+        "!marks.pieces.length && head.lengths && location.hash.endsWith(`&runs=${head.lengths}`)"
         " && [location.hash, head.width * head.height - head.fluid]"
     )
     page.drag("dense", (200, 40))
@@ -187,7 +182,7 @@ def seeded(page):
     page.click("turn")
     check(
         "a seeded gas does not go back, and says why",
-        "random bits only run forwards" in page.js("return live.notes.at(-1)"),
+        "random bits only run forwards" in page.js("return notes.at(-1)"),
     )
     page.click("offer")
     generation = page.wait("head.chirality === 'left' && head.generation")
@@ -202,7 +197,7 @@ def seeded(page):
     page.wait("head.gas === 'hpp'")
     check(
         "what cannot be a gas's cells is a new start, and the page says so",
-        "new start" in page.wait("live.notes.at(-1)"),
+        "new start" in page.wait("notes.at(-1)"),
     )
     page.click("undo")
     check(
@@ -233,17 +228,17 @@ def cells(page):
     check(
         "solid cells are drawn where they are", page.pixel(5, 0) == page.pixel(5.5, 0.866) == SOLID
     )
-    page.click("half"), page.wait("motion.phase === 1 && !live.isScheduled")
+    page.click("half"), page.wait("motion.phase === 1 && !screen.isScheduled")
     check("half a step shows the pair turned", page.pixel(1.5 + 0.15, 0.866 - 0.25) == meets)
     page.click("link")
     check(
         "no link has a scene",
         page.js("return location.hash") == "#opened" or page.wait("location.hash === '#opened'"),
     )
-    check("and the page says so", page.js("return live.notes.at(-1)").startswith("No link has"))
-    notes = page.js("return live.notes.length")
+    check("and the page says so", page.js("return notes.at(-1)").startswith("No link has"))
+    notes = page.js("return notes.length")
     page.open(KNOWN.replace("01", "41"))
-    note = page.wait(f"live.notes.length > {notes} && live.notes.at(-1)")
+    note = page.wait(f"notes.length > {notes} && notes.at(-1)")
     check("a scene that is refused", note == "this page does not read cell 0 of row 0", note)
     paste = "const data = new DataTransfer(); data.setData('text', arguments[0]);"
     page.js(
@@ -323,7 +318,7 @@ def keyboard(page):
 def address(page):
     """The address keeps the state. Controls have names and keys of their own. A page that nobody sees rests."""
     page.go("#field=__proto__&seed=1e22&at=5&probe=1&wind=9")
-    told = page.js("return live.notes.at(-1)")
+    told = page.js("return notes.at(-1)")
     check(
         "wrong addresses end in the default with a word",
         all(one in told for one in ("field=__proto__", "seed=1e22", "at=5", "probe=1", "wind=9")),
@@ -335,9 +330,7 @@ def address(page):
         "which covers the sentence only", first <= left < right <= last, (first, left, right, last)
     )
     check("which runs", page.wait("head.generation > 20 && location.hash.includes('seed=1&')"))
-    page.go("#at=1e9 1 1"), page.wait(
-        "live.notes.at(-1)?.includes('past the lattice') && look.isWhole"
-    )
+    page.go("#at=1e9 1 1"), page.wait("notes.at(-1)?.includes('past the lattice') && look.isWhole")
     page.choose("change", scene="porous medium"), page.wait("head.wind === 0.04")
     page.choose("input", wind="0.06"), page.wait(
         "head.wind === 0.06 && location.hash.includes('wind=0.06')"
@@ -356,7 +349,7 @@ def address(page):
     )
     check("no key is of two controls", len(keys) == len(set(keys)), sorted(keys))
     page.js(
-        "window.kept = requestAnimationFrame, window.requestAnimationFrame = () => 0; fhpgas.live.isScheduled = false;"
+        "window.kept = requestAnimationFrame, window.requestAnimationFrame = () => 0; fhpgas.screen.isScheduled = false;"
         "kept(() => { window.isPast = true; })"  # after what was asked for before
     )
     page.wait("window.isPast && shown.queue.length === 2")  # as many as the worker sends ahead
@@ -371,7 +364,7 @@ def small(page):
     for width, height, least in (1366, 650, 1050), (1024, 700, 960):
         metrics = {"width": width, "height": height, "deviceScaleFactor": 1, "mobile": False}
         page.driver.execute_cdp_cmd("Emulation.setDeviceMetricsOverride", metrics)
-        page.wait(f"innerWidth === {width} && view.clientWidth === {width} && !live.isScheduled")
+        page.wait(f"innerWidth === {width} && view.clientWidth === {width} && !screen.isScheduled")
         wide = page.js("return head.width * look.place.scale")
         check(f"the lattice is large at {width} x {height}", least <= wide <= width, wide)
 
@@ -435,7 +428,7 @@ def large(room):
         "the L comes back",
         page.wait("head.found !== null && [head.found, head.generation]") == [0, 0],
     )
-    page.click("undo"), page.wait("live.notes.at(-1).startsWith('The way back has undone')")
+    page.click("undo"), page.wait("notes.at(-1).startsWith('The way back has undone')")
     check("undo then draws nothing", page.js("return head.fluid === head.width * head.height"))
     page.choose("change", scene="HPP's knotted ring beside FHP's")
     check(
@@ -450,7 +443,7 @@ def large(room):
 SELF_TEST = """
 const until = async (isSo) => { for (let n = 0; n < 2000 && !isSo(); n++) await new Promise((go) => setTimeout(go, 30)); return isSo(); };
 (async () => {
-  const { $, shown, head, live, look } = fhpgas, said = (what, isSo) => dump(`RESULT ${isSo ? 1 : 0} ${what}\\n`);
+  const { $, shown, head, said: words, look } = fhpgas, said = (what, isSo) => dump(`RESULT ${isSo ? 1 : 0} ${what}\\n`);
   const event = (kind, x, y) => $("view").dispatchEvent(new PointerEvent(kind, { clientX: x, clientY: y, pointerId: 1, pointerType: "mouse", bubbles: true }));
   $("view").setPointerCapture = () => 0;
   said("it moves", await until(() => head()?.generation > 50));
@@ -461,7 +454,7 @@ const until = async (isSo) => { for (let n = 0; n < 2000 && !isSo(); n++) await 
   said("a stroke is drawn", await until(() => head().width * head().height - head().fluid > solid));
   $("turn").click();
   said("it comes back", await until(() => head().found === 0 && head().generation === 0));
-  said("the kernel is the one that is there", await until(() => live.engine === "@ENGINE@"));
+  said("the kernel is the one that is there", await until(() => words.engine.startsWith("@ENGINE@")));
   dump("RESULT end\\n");
 })();
 """
@@ -473,7 +466,7 @@ def firefox(room):
     if not program:
         return ["firefox-esr is missing"]
     engine = FILE.parent / "engine.js"
-    script = SELF_TEST.replace("@ENGINE@", "proved" if engine.exists() else "plain")
+    script = SELF_TEST.replace("@ENGINE@", "The proved" if engine.exists() else "The kernel")
     code = base64.b64encode(hashlib.sha256(script.encode()).digest()).decode()
     text = re.sub("(script-src )", rf"\1'sha256-{code}' ", FILE.read_text("utf-8"), count=1)
     (room / "page.html").write_text(

@@ -15,7 +15,7 @@ import { spawnSync } from "node:child_process";
 import { mkdtempSync, readFileSync, rmSync } from "node:fs";
 import { maker } from "../../page/built.mjs";
 import { Flow } from "../../page/src/flow.js";
-import { Flows } from "../../page/src/flows.js";
+import { Experiment } from "../../page/src/experiment.js";
 import { Watched } from "../../page/src/frames.js";
 import { GASES, SOLID } from "../../page/src/gases.js";
 import { numbersOf, strouhal, viscosity } from "../../page/src/numbers.js";
@@ -69,9 +69,9 @@ for (let number = 0; number < histories; number++) tried(`history ${number}`, ()
 // but for what was done on the way back and not undone.
 function undoing(number) {
   const random = lots(9000 + number), gas = random.of(Object.values(GASES)), [width, height] = [30 + random.below(40), 16 + random.below(20)];
-  const flows = Object.assign(new Flows(), { make }), keep = random.chance() < 0.5;
-  flows.start({ flows: [{ gas: gas.name, chirality: "left", width, height, wind: 0.1, keep, filling: 0.2, shape: random.of(["none", "disc"]), radius: 4, seed: "1" }], state: "" });
-  const [{ flow }] = flows.watched, solid = () => Array.from({ length: width * height }, (_, at) => flow.cells.isSolid(at));
+  const experiment = Object.assign(new Experiment(), { make }), keep = random.chance() < 0.5;
+  experiment.start({ starts: [{ gas: gas.name, chirality: "left", width, height, wind: 0.1, keep, filling: 0.2, shape: random.of(["none", "disc"]), radius: 4, seed: "1" }], state: "" });
+  const [{ flow }] = experiment.watched, solid = () => Array.from({ length: width * height }, (_, at) => flow.cells.isSolid(at));
   const place = () => [random.below(width), random.below(height) * gas.apart], same = (what, isSo) => check(`undoing ${number}: ${what}`, isSo);
   const done = [], forwards = [solid()]; // what can be undone, and the solid cells by generation, before its changes
   let changes = [], removed = [], origin = 0; // changes forwards, and what was undone on the way back before it came there
@@ -110,16 +110,16 @@ function undoing(number) {
         if (isBack) passes(isCalm);
         else forwards[flow.generation] = solid();
       }
-    } else if (kind < 5) note(act(() => flows.each((one) => flows.stroke(one, { from: place(), to: place(), radius: 1 + random.below(3), solid: random.chance() < 0.6, end: true }))));
-    else if (kind === 5 && random.chance() < 0.5) note(act(() => flows.clear()), true);
+    } else if (kind < 5) note(act(() => experiment.each((one) => experiment.stroke(one, { from: place(), to: place(), radius: 1 + random.below(3), solid: random.chance() < 0.6, end: true }))));
+    else if (kind === 5 && random.chance() < 0.5) note(act(() => experiment.clear()), true);
     else if (kind === 6) {
       const { direction, isDisturbed } = flow;
-      flows.turn((one) => one.turn());
+      experiment.turn((one) => one.turn());
       if (direction > 0) passes();
       else if (isDisturbed) begun();
     } else if (done.length) {
       const { was, isBack, isLate, generation } = done.pop(), before = solid();
-      act(() => flows.undo());
+      act(() => experiment.undo());
       same("what was undone", solid().every((now, at) => now === (was.has(at) && !isBack ? was.get(at) : before[at])));
       if (flow.direction < 0 && !isBack && (!isLate || generation < 0)) removed.push({ was, generation });
     }
@@ -154,7 +154,7 @@ tried("one particle turned on the way back", () => {
 const view = { field: "vorticity", block: 8, smooth: 1, span: 300, window: null };
 tried("means over time turn with the particles", () => {
   const flow = drawn(make, { gas: "fhp-rest", chirality: "left", width: 256, height: 128, filling: 0.18, wind: 0.2, keep: true, shape: "disc", radius: 11, seed: "1" });
-  const watched = new Watched(flow), [u, v] = ["u", "v"].map((part) => () => watched.stream.mean[part].map((value) => value || 0));
+  const watched = new Watched(flow), [u, v] = ["u", "v"].map((part) => () => watched.velocity.mean[part].map((value) => value || 0));
   for (let k = 0; k < 20; k++) (watched.advance(5), watched.frame(view, 5));
   const before = [u(), v(), watched.mean.parts[2].slice()];
   flow.turn();

@@ -1,7 +1,7 @@
-// Runs of bits in which two planes differ, as a text for the address.
+// The bits in which two planes differ, as a text for the address: the lengths of runs.
 
 /** How many bits are the same, how many then differ, and so on. */
-export function runsOf(plane, other) {
+export function lengthsOf(plane, other) {
   const ends = [0];
   let before = 0;
   plane.forEach((word, k) => {
@@ -14,9 +14,9 @@ export function runsOf(plane, other) {
 }
 
 /** The bits of such a text, below `most`. */
-export function* bitsOf(runs, most) {
+export function* bitsOf(lengths, most) {
   let at = 0, isUnlike = false;
-  for (const length of runs ? `${runs}.${most.toString(36)}`.split(".") : []) {
+  for (const length of lengths ? `${lengths}.${most.toString(36)}`.split(".") : []) {
     const end = Math.min(most, at + parseInt(length, 36));
     for (; at < end; at++) if (isUnlike) yield at;
     isUnlike = !isUnlike;

@@ -1,5 +1,5 @@
-// The mean flow, on blocks of its own, whatever is shown: it carries the tracers, and the fastest block and the stream
-// that meets an obstacle are read from it.
+// The mean velocity, on blocks of its own, whatever is shown: it carries the tracers, and the fastest block and the
+// speed that meets an obstacle are read from it.
 import { TimeMean } from "./fields.js";
 import { gathered } from "./sums.js";
 
@@ -7,13 +7,12 @@ const MEMORY = 300; // generations of the mean
 const STEP = 20; // generations from one measurement to the next
 const MOST_BLOCKS = 4000;
 
-export class Stream {
+export class MeanVelocity {
   generations = 0; // that the mean has seen
   waiting = 0; // generations that it has not
   fastest = 0;
   blockage = 0; // the solid part of the highest column
-  /** @type {{ west: number, top: number, bottom: number } | null} of one obstacle */
-  box = null;
+  box = /** @type {{ west: number, top: number, bottom: number } | null} */ (null); // of one obstacle
 
   /** @param {Flow} flow */
   constructor(flow) {

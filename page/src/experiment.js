@@ -9,20 +9,14 @@ import { Stroke, cleared } from "./tools.js";
 
 const MOST_UNDO = 50;
 
-export class Flows {
-  /** @type {MakeKernel} */
-  make = () => {
-    throw new Error("there is no kernel");
-  };
-  /** @type {Watched[]} */
-  watched = [];
+export class Experiment {
+  make = /** @type {MakeKernel} */ (() => { throw new Error("there is no kernel"); });
+  watched = /** @type {Watched[]} */ ([]);
   state = ""; // of the controls, with these flows
   serial = 0;
   asked = 0; // the start of the page's that was made last
-  /** @type {(() => void)[]} what undoes what was done */
-  past = [];
-  /** @type {Map<Flow, Stroke>} what is being drawn */
-  strokes = new Map();
+  past = /** @type {(() => void)[]} */ ([]); // what undoes what was done
+  strokes = /** @type {Map<Flow, Stroke>} */ (new Map()); // what is being drawn
 
   /** Takes the module of a text: all flows go on in it. */
   async take(text) {
@@ -59,9 +53,9 @@ export class Flows {
     watched.forEach(({ flow }) => (flow.cells.isBuilt = true));
   }
 
-  start({ flows, state, asked = this.asked }) {
+  start({ starts, state, asked = this.asked }) {
     this.asked = asked;
-    this.begun(flows.map((start) => drawn(this.make, start)), state);
+    this.begun(starts.map((start) => drawn(this.make, start)), state);
   }
 
   open({ text, state }) {
@@ -69,12 +63,12 @@ export class Flows {
   }
 
   /** The same cells with another gas, if they can be its cells, else a new start. */
-  changeGas({ gas: name, flows, state }) {
+  changeGas({ gas: name, starts, state }) {
     const gas = GASES[name], states = this.watched.map(({ flow }) => flow.cells.states());
     const fits = this.watched.every(({ flow }, k) => flow.direction > 0 && flow.gas.isHexagonal === gas.isHexagonal
       && states[k].every((cell) => cell < 1 << gas.directions || cell === SOLID));
     if (!fits) {
-      this.start({ flows, state });
+      this.start({ starts, state });
       const why = `These cells cannot be cells of ${name}, so this is a new start.`;
       return void this.watched[0].flow.notes.push(`${why} Undo brings the old lattice back.`);
     }
@@ -94,7 +88,6 @@ export class Flows {
     }
   }
 
-  /** Turns all flows, or none. */
   turn(change) {
     if (this.watched.every(({ flow }) => flow.canTurn)) this.each(change);
   }

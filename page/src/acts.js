@@ -1,0 +1,170 @@
+// What the controls do.
+import { applyState, isShort, setControl, stateText, writeAddress } from "./address.js";
+import { record, save } from "./files.js";
+import { GASES } from "./gases.js";
+import { closer, fit, looked } from "./look.js";
+import { count } from "./numbers.js";
+import { paintNumbers } from "./panel.js";
+import { repaint, tellNumbers, update } from "./screen.js";
+import { $, amount, asked, chosen, element, head, look, marks, motion, preset, shown, view } from "./state.js";
+import { go, isSlow, move } from "./time.js";
+import { tell } from "./wire.js";
+import { hideNote, introduce, note } from "./words.js";
+
+const isStill = matchMedia("(prefers-reduced-motion: reduce)").matches, bodyClass = document.body.classList;
+const before = { pace: "" }; // single cells
+
+/** The starts of the controls. @param {string} [lengths] what was drawn */
+function startsOf(lengths) {
+  const { gases, shapes } = preset(), [width, height] = $("size").value.split(" x ").map(Number);
+  return shapes.map((shape, k) => ({ width, height, shape, lengths, gas: gases.length > 1 ? gases[k] : $("gas").value,
+    chirality: $("chirality").value, keep: $("keep").checked,
+    isDeveloped: $("developed").checked, seed: String(Math.round(amount("seed"))),
+    filling: amount("fill"), wind: amount("wind"), radius: amount("radius") }));
+}
+
+/** @param {boolean} [hasLength] @param {string} [lengths] what was drawn */
+export function start(hasLength = false, lengths = "") {
+  const { rests, length, flips } = preset(), starts = startsOf(lengths), [{ width, height, gas }] = starts;
+  const { apart } = GASES[gas];
+  introduce();
+  if (!hasLength) setControl("length", Math.round(length ? 2 * amount("radius") : height * apart));
+  hideNote();
+  marks.probe = null;
+  look.isWhole = true;
+  looked();
+  tell("start", { starts, state: stateText(), asked: ++asked.starts });
+  if (flips) tell("flip", { at: [width / 2, (height * apart) / 2], radius: 1 });
+  go(!isStill && !rests);
+  if (shown.frames.length) note("A new start. Undo (⌫) brings the old lattice back.", "", 4);
+  if (isStill || rests) note(`${isStill ? "Your system asks for less motion" : "It rests"}: Run starts it.`, "", 5);
+}
+
+function near() {
+  closer(Math.max(1, 36 / look.place.scale));
+  if (isSlow()) return;
+  before.pace = $("pace").value;
+  setControl("pace", "1 s");
+  go(shown.isRunning);
+}
+
+/** Shows all, and goes on as fast as before single cells. */
+function whole() {
+  fit();
+  if (before.pace && $("pace").value === "1 s") setControl("pace", before.pace);
+  before.pace = "";
+  go(shown.isRunning);
+}
+
+function step() {
+  if (shown.isRunning) go(false);
+  if (motion.isOn || motion.phase > 1) return;
+  if (head().cells) return move(900);
+  motion.phase = 2;
+  tell("step", {});
+}
+
+function half() {
+  if (shown.isRunning) go(false);
+  if (!head().cells) return near();
+  if (motion.phase < 2 && !motion.isOn && motion.phase) return move(1400);
+  motion.phase ||= 1;
+  repaint();
+}
+
+/** Goes back, if all flows can, or offers a way on. */
+function back(command) {
+  hideNote();
+  if (shown.frames.some(({ canTurn }) => !canTurn)) {
+    const why = "Pairs turn at random here, and their random bits only run forwards.";
+    const offer = element("button", { id: "offer" }, "Go on with left");
+    offer.onclick = () => {
+      hideNote();
+      setControl("chirality", "left");
+      acts.chirality();
+    };
+    return note(`${why} If they turn left from these cells on, time can come back to here.`, "bad", 20).append(offer);
+  }
+  const { isCut, origin, direction } = head(), oldest = `The way back goes to generation ${count(origin)}`;
+  if (isCut && direction > 0) note(`${oldest}: older turnings took more than 64 MB.`, "", 9);
+  tell(command, {});
+  go(command === "turn");
+}
+
+function link() {
+  if (shown.isOpened) return note("No link has the cells of a scene that was opened: save the scene, and pass that on.", "bad", 9);
+  writeAddress();
+  const less = isShort() ? "" : ", without what was drawn, which is too much: save the scene";
+  const told = () => note(`The link to this start is copied${less}.`, "good", 4);
+  const shownOnly = () => note(`This browser does not let the page copy: the link is in the address bar${less}.`, "", 9);
+  if (navigator.clipboard) navigator.clipboard.writeText(location.href).then(told, shownOnly);
+  else shownOnly();
+}
+
+/** Shows the picture and nothing else, on the full screen if there is one. */
+function bare() {
+  const isBare = bodyClass.toggle("bare");
+  if (isBare) document.documentElement.requestFullscreen?.().catch(() => 0);
+  else if (document.fullscreenElement) document.exitFullscreen();
+}
+
+function toggle(id, other) {
+  $(id).hidden = !$(id).hidden;
+  $(other).hidden = true;
+  fold();
+  return !$(id).hidden;
+}
+
+/** Folds the panel where it lies over the picture. */
+const fold = () => matchMedia("(max-width: 899px)").matches && bodyClass.remove("opened");
+
+const command = (name, valueOf = () => ({})) => () => tell(name, valueOf());
+
+export const acts = {
+  preset: () => {
+    applyState(`scene=${$("scene").value}`);
+    start();
+  },
+  start: () => start(),
+  gas: command("gas", () => ({ gas: $("gas").value, starts: startsOf(), state: stateText() })),
+  chirality: command("chirality", () => ({ chirality: $("chirality").value })),
+  keep: command("keep", () => ({ wind: $("keep").checked ? amount("wind") : null })),
+  wind: () => $("keep").checked && acts.keep(),
+  undo: command("undo"),
+  clear: command("clear"),
+  field: (field) => {
+    chosen.field = field;
+    looked();
+  },
+  tool: (tool) => {
+    chosen.tool = tool;
+    view().style.cursor = tool === "move" ? "grab" : "crosshair";
+    fold();
+  },
+  look: looked,
+  fit: whole,
+  near,
+  closer: () => closer(1.5),
+  farther: () => closer(1 / 1.5),
+  bare,
+  drawer: () => bodyClass.toggle("opened"),
+  save: command("save"),
+  film: () => record(update),
+  picture: () => view().toBlob((blob) => blob && save(blob, `${head().gas}-${head().generation}.png`)),
+  link,
+  numbers: () => {
+    tell("hash", { isWanted: toggle("all", "help") });
+    paintNumbers();
+  },
+  help: () => toggle("help", "all") && $("help").focus(),
+  length: () => tellNumbers(0),
+  back: () => back("back"),
+  play: () => {
+    hideNote();
+    go(!shown.isRunning);
+  },
+  step,
+  half,
+  pace: () => go(shown.isRunning),
+  turn: () => back("turn"),
+};

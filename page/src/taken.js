@@ -1,0 +1,75 @@
+// What the worker sent is taken: the next frame, perhaps of flows that begin.
+import { OPENED, applyState, setControl, stateText } from "./address.js";
+import { fit, lookAsAsked } from "./look.js";
+import { count } from "./numbers.js";
+import { wallsOf } from "./picture.js";
+import { setProbe } from "./pointer.js";
+import { panes, screen } from "./screen.js";
+import { asked, head, marks, motion, shown } from "./state.js";
+import { isSlow, move, setRunning } from "./time.js";
+import { hideNote, introduce, note } from "./words.js";
+
+export function take({ frames, serial, asked: number, canUndo, isRunning, strokes, state, hashes = [] }) {
+  const isNew = serial !== shown.serial, before = isNew ? null : head(), { generation, direction } = frames[0];
+  if (isNew || canUndo !== shown.canUndo) screen.toldAt = 0;
+  const isMoved = generation !== before?.generation;
+  Object.assign(shown, { frames, serial, canUndo, hashes, isRunning: isSlow() ? shown.isRunning : isRunning });
+  marks.pieces.splice(0, strokes);
+  if (isNew) beginAnew(state, number < asked.starts);
+  if (isMoved) Object.assign(motion, { phase: 0, isOn: false });
+  frames.forEach((frame, k) => {
+    if (frame.walls) panes[k].walls = wallsOf(frame, frame.walls);
+    panes[k].tracers.carry(frame);
+    if (frame.notes.length) marks.touched = null;
+    for (const text of frame.notes) note(text, "", 9);
+  });
+  if (before && direction > before.direction) turnedForwards(frames[0]);
+  if (isMoved) sample(frames[0]);
+  tellReturn(before);
+  if (isMoved && shown.isRunning && isSlow()) move();
+}
+
+/** Time runs forwards again, perhaps from cells that never were before. */
+function turnedForwards({ wind, chirality, gas, origin, generation }) {
+  if (origin === generation) marks.samples = [];
+  Object.entries({ keep: wind !== null, chirality, gas }).forEach(([id, value]) => setControl(id, value));
+}
+
+/** Keeps what the probe measured; of many samples every second one. On the way back they are taken away again. */
+function sample({ probe, generation, incoming, direction }) {
+  if (!probe || String(probe.at) !== String(marks.probe?.at)) return;
+  while (marks.samples.length && marks.samples[marks.samples.length - 1].generation >= generation) marks.samples.pop();
+  if (direction > 0) marks.samples.push({ generation, u: probe.u, v: probe.v, incoming });
+  if (marks.samples.length > 8000) marks.samples = marks.samples.filter((_, k) => k % 2);
+}
+
+function tellReturn(before) {
+  const { found, generation, width, height } = head();
+  if (found === null || !before || before.found !== null) return;
+  const whose = `${count(found)} of ${count(width * height)} cells differ from the cells of then.`;
+  setRunning(false);
+  note(`Back at generation ${count(generation)}: ${whose}`, found ? "bad" : "good");
+}
+
+/** The flows of a state are there, perhaps late, because the controls have asked for others meanwhile. */
+function beginAnew(state, isLate) {
+  shown.isOpened = state === OPENED;
+  if (shown.isOpened) {
+    hideNote();
+    introduce("A scene that was opened. Run starts it.", "");
+    setRunning(false);
+  } else if (!isLate && state !== stateText()) {
+    applyState(state);
+    introduce();
+  }
+  const { at, probe, refused } = asked;
+  Object.assign(marks, { samples: [], pieces: [], probe: null, touched: null });
+  shown.times = [];
+  shown.frames.forEach((frame, k) => panes[k].tracers.spread(frame));
+  turnedForwards(head());
+  fit();
+  Object.assign(asked, { at: null, probe: null, refused: [] });
+  if (probe) setProbe({ at: [probe[0], probe[1]], radius: probe[2] });
+  if (at) lookAsAsked(at);
+  if (refused.length) head().notes.push(`The address asks for what there is not: ${refused.join(", ")}.`);
+}
