@@ -23,7 +23,11 @@ WORDS = (
 )
 FILE = needs.ROOT / "page/fhpgas.html"
 PATIENCE = 600  # seconds: far more than anything takes, and nothing here depends on it
-NAMES = "const { $, chosen, look, marks, motion, notes, said, screen, shown } = fhpgas, head = fhpgas.head(), view = $('view');"
+NAMES = (
+    "const { $, chosen, look, marks, motion, notes, said, screen, shown } = fhpgas, head = fhpgas.head(), view = $('view'),"
+    " solid = head && head.width * head.height - head.fluid,"
+    " controls = [...document.querySelectorAll('button, select, input')].filter((e) => e.id !== 'file');"
+)
 
 
 class Late(Exception):
@@ -61,11 +65,14 @@ class Page:
     def js(self, text, *values):
         return self.driver.execute_script(NAMES + text, *values)
 
+    def now(self, value):
+        return self.js(f"return {value}")
+
     def wait(self, condition):
         end = time.monotonic() + PATIENCE
-        while not (found := self.js(f"return {condition}")):
+        while not (found := self.now(condition)):
             if time.monotonic() > end:
-                raise Late(f"{condition} did not come: {self.js('return notes')}")
+                raise Late(f"{condition} did not come: {self.now('notes')}")
             time.sleep(0.02)
         return found
 
@@ -88,7 +95,7 @@ class Page:
 
     def pause(self):
         """Pauses, and opens the list of all numbers for the hash."""
-        if self.js("return shown.isRunning"):
+        if self.now("shown.isRunning"):
             self.click("play")
         self.click("numbersAll")
         found = self.wait(
@@ -108,8 +115,8 @@ class Page:
     def drag(self, tool, *places, waits=True):
         """Draws a line over places of the lattice with a tool, and waits until the page says what came of it."""
         self.click(tool)
-        notes = self.js("return notes.length")
-        width, height = self.js("return [view.clientWidth, view.clientHeight]")
+        notes = self.now("notes.length")
+        width, height = self.now("[view.clientWidth, view.clientHeight]")
         chain = ActionChains(self.driver, duration=50)
         for number, place in enumerate(places):
             x, y = self.at(*place)

@@ -56,7 +56,7 @@ def begins(page):
         "window.sent = shown.painted + shown.queue.length;"
         "fhpgas.worker.addEventListener('message', ({ data }) => { sent += data.name === 'frames'; })"
     )
-    moved = page.js("return performance.getEntriesByName('moved')[0]")
+    moved = page.now("performance.getEntriesByName('moved')[0]")
     check("one of the first two pictures has moved", moved["detail"] <= 2, moved["detail"])
     print(f"first motion after {moved['startTime']:.0f} ms")
     wanted = "The proved" if (FILE.parent / "engine.js").exists() else "The kernel"
@@ -64,15 +64,15 @@ def begins(page):
         "the kernel is the one that is there, and the page says which",
         page.wait(f"said.engine.startsWith('{wanted}')"),
     )
-    look = "return [...view.getContext('2d').getImageData(0, 0, view.width, 300).data].reduce((a, b, i) => (a * 31 + b * (i % 7)) | 0, 0)"
-    first = page.js(look)
-    page.wait(f"head.generation > {page.js('return head.generation') + 20}")
-    check("the picture moves", page.js(look) != first)
+    look = "[...view.getContext('2d').getImageData(0, 0, view.width, 300).data].reduce((a, b, i) => (a * 31 + b * (i % 7)) | 0, 0)"
+    first = page.now(look)
+    page.wait(f"head.generation > {page.now('head.generation') + 20}")
+    check("the picture moves", page.now(look) != first)
     check(
         "each frame of the worker is painted or waits for its turn",
-        page.js("return sent === shown.painted + shown.queue.length"),
+        page.now("sent === shown.painted + shown.queue.length"),
     )
-    check("the wind is kept", abs(page.js("return head.u") - 0.14) < 0.02, page.js("return head.u"))
+    check("the wind is kept", abs(page.now("head.u") - 0.14) < 0.02, page.now("head.u"))
     page.click("turn")
     page.wait("head.direction < 0 || head.found !== null")
     found = page.wait("head.found !== null && [head.found, head.generation]")
@@ -80,25 +80,23 @@ def begins(page):
     page.click("bare")
     check(
         "the picture without controls fills the window",
-        page.js("return view.clientWidth === innerWidth && view.clientHeight === innerHeight"),
+        page.now("view.clientWidth === innerWidth && view.clientHeight === innerHeight"),
     )
     page.key("q")
-    check("a key shows the controls again", page.js("return view.clientHeight < innerHeight"))
+    check("a key shows the controls again", page.now("view.clientHeight < innerHeight"))
     reynolds = "const [, box] = $('numbers').children; return Number(box.firstChild.textContent)"
     found = [page.js(reynolds), page.choose("change", length="44"), page.js(reynolds)]
     check("a shorter length changes Reynolds at once", abs(found[2] / found[0] - 0.5) < 0.01, found)
-    untold = "return [...document.querySelectorAll('button, select, input')].filter((e) => !e.title && e.id !== 'file').map((e) => e.id)"
-    check("every control says what it does", not page.js(untold), page.js(untold))
+    untold = "controls.filter((e) => !e.title).map((e) => e.id)"
+    check("every control says what it does", not page.now(untold), page.now(untold))
     page.key("?")
     check(
         "and a list too",
-        "fhp-rest (FHP-II) has six and particles at rest" in page.js("return $('help').innerText"),
+        "fhp-rest (FHP-II) has six and particles at rest" in page.now("$('help').innerText"),
     )
     page.key("?")
     page.key("=")
-    check(
-        "a key opens all numbers", "force per fluid cell" in page.js("return $('all').textContent")
-    )
+    check("a key opens all numbers", "force per fluid cell" in page.now("$('all').textContent"))
     page.key("=")
 
 
@@ -106,24 +104,19 @@ def edits(page):
     """Obstacles are drawn, erased, undone and cleared. Returns the generation of a pause, the scene of then, and an address with
     the number of solid cells that were there."""
     page.choose("change", keep=False)
-    particles, solid = page.wait(
-        "head.wind === null && [head.particles, head.width * head.height - head.fluid]"
-    )
+    particles, solid = page.wait("head.wind === null && [head.particles, solid]")
     page.wait("head.generation > 100")
     page.drag("draw", (120, 30), (150, 60), (170, 90))
-    drawn = page.wait(
-        f"head.width * head.height - head.fluid > {solid} + 500 && head.width * head.height - head.fluid"
-    )
+    drawn = page.wait(f"solid > {solid} + 500 && solid")
     check(
-        "an obstacle is drawn while it runs",
-        "particles were beneath" in page.js("return notes.at(-1)"),
+        "an obstacle is drawn while it runs", "particles were beneath" in page.now("notes.at(-1)")
     )
     page.click("undo")
-    page.wait(f"head.width * head.height - head.fluid === {solid}")
-    check("a stroke is undone", page.js("return head.particles") == particles)
+    page.wait(f"solid === {solid}")
+    check("a stroke is undone", page.now("head.particles") == particles)
     page.drag("draw", (120, 30), (150, 60), (170, 90))
     page.drag("erase", (150, 60), (160, 70))
-    page.wait(f"head.width * head.height - head.fluid < {drawn}")
+    page.wait(f"solid < {drawn}")
     page.js(
         "window.kept = fhpgas.worker.onmessage, window.held = [], fhpgas.worker.onmessage = (event) => held.push(event)"
     )
@@ -134,16 +127,16 @@ def edits(page):
     page.js("fhpgas.worker.onmessage = kept, held.forEach(kept)")
     link, solid = page.wait(
         "!marks.pieces.length && head.lengths && location.hash.endsWith(`&runs=${head.lengths}`)"
-        " && [location.hash, head.width * head.height - head.fluid]"
+        " && [location.hash, solid]"
     )
     page.drag("dense", (200, 40))
-    check("particles stay as many", particles == page.js("return head.particles"))
+    check("particles stay as many", particles == page.now("head.particles"))
     page.choose("change", chirality="right")
     page.wait("head.chirality === 'right'")
     generation, _ = page.pause()
     check(
         "how pairs turn changes in the same cells",
-        generation > 100 and page.js("return head.particles") == particles,
+        generation > 100 and page.now("head.particles") == particles,
     )
     return generation, page.saved("save", ".toml"), link, solid
 
@@ -153,7 +146,7 @@ def continues(page, first, scene):
     page.choose("change", pace="most"), page.click("play")
     page.wait(f"head.generation >= {max(1000, first + 100)}")
     last, found = page.pause()
-    told = page.js("return $('numbers').textContent")
+    told = page.now("$('numbers').textContent")
     check("the numbers are of the cells that rest", told.startswith(f"{last:,}generation"), told)
     words = [PROGRAM, "run", "--generations", str(last - first)]
     ran = subprocess.run(words, input=scene, stdout=subprocess.PIPE, check=True)
@@ -182,7 +175,7 @@ def seeded(page):
     page.click("turn")
     check(
         "a seeded gas does not go back, and says why",
-        "random bits only run forwards" in page.js("return notes.at(-1)"),
+        "random bits only run forwards" in page.now("notes.at(-1)"),
     )
     page.click("offer")
     generation = page.wait("head.chirality === 'left' && head.generation")
@@ -192,7 +185,7 @@ def seeded(page):
         "a gas changes in the same cells",
         page.wait("head.gas === 'fhp-rest' && head.generation") >= generation,
     )
-    particles = page.js("return head.particles")
+    particles = page.now("head.particles")
     page.choose("change", gas="hpp")
     page.wait("head.gas === 'hpp'")
     check(
@@ -203,7 +196,7 @@ def seeded(page):
     check(
         "a new start is undone", page.wait("head.gas === 'fhp-rest' && head.particles") == particles
     )
-    check("the controls too", page.js("return $('gas').value") == "fhp-rest")
+    check("the controls too", page.now("$('gas').value") == "fhp-rest")
 
 
 def cells(page):
@@ -233,10 +226,10 @@ def cells(page):
     page.click("link")
     check(
         "no link has a scene",
-        page.js("return location.hash") == "#opened" or page.wait("location.hash === '#opened'"),
+        page.now("location.hash") == "#opened" or page.wait("location.hash === '#opened'"),
     )
-    check("and the page says so", page.js("return notes.at(-1)").startswith("No link has"))
-    notes = page.js("return notes.length")
+    check("and the page says so", page.now("notes.at(-1)").startswith("No link has"))
+    notes = page.now("notes.length")
     page.open(KNOWN.replace("01", "41"))
     note = page.wait(f"notes.length > {notes} && notes.at(-1)")
     check("a scene that is refused", note == "this page does not read cell 0 of row 0", note)
@@ -279,53 +272,49 @@ def keyboard(page):
     page.js("$('erase').focus()")
     page.key(Keys.SPACE)
     check(
-        "Space presses the focused button",
-        page.js("return chosen.tool === 'erase' && shown.isRunning"),
+        "Space presses the focused button", page.now("chosen.tool === 'erase' && shown.isRunning")
     )
     page.js("$('wind').focus()")
     page.key(Keys.ARROW_RIGHT)
     check(
         "arrows move the focused slider, and it keeps the focus",
-        page.js("return [$('wind').value, document.activeElement.id]") == ["0.16", "wind"],
+        page.now("[$('wind').value, document.activeElement.id]") == ["0.16", "wind"],
     )
     check(
         "it says its value",
-        page.js("return $('smooth').getAttribute('aria-valuetext')").endswith("cells"),
+        page.now("$('smooth').getAttribute('aria-valuetext')").endswith("cells"),
     )
-    serial = page.js("return shown.serial")
+    serial = page.now("shown.serial")
     page.js("$('scene').focus()")
     page.key("v")
     check(
         "a letter in a list is the list's",
-        page.js("return $('scene').value === 'vortex street' && $('film').textContent === 'filmv'"),
+        page.now("$('scene').value === 'vortex street' && $('film').textContent === 'filmv'"),
     )
     page.wait(f"shown.serial > {serial}")
     page.go(QUICK), page.js("view.focus()")
-    solid = page.wait("head.generation > 5 && head.width * head.height - head.fluid")
+    solid = page.wait("head.generation > 5 && solid")
     page.key("d", Keys.ARROW_UP, Keys.SPACE)
-    page.wait(f"head.width * head.height - head.fluid > {solid} + 300")
-    check("keys draw on the focused picture", page.js("return shown.isRunning && marks.cursor"))
+    page.wait(f"solid > {solid} + 300")
+    check("keys draw on the focused picture", page.now("shown.isRunning && marks.cursor"))
     page.key(Keys.F4, "e")
-    check("letters are no keys if one wants", page.js("return chosen.tool") == "draw")
+    check("letters are no keys if one wants", page.now("chosen.tool") == "draw")
     page.js("document.activeElement.blur()"), page.key(Keys.F4)
     page.go(QUICK)
-    serial = page.js("return shown.serial")
+    serial = page.now("shown.serial")
     page.key(*"uuuuuu")
     page.wait(f"shown.serial >= {serial} + 6")
-    check("each of some quick presses counts", page.js("return $('radius').value") == "26")
+    check("each of some quick presses counts", page.now("$('radius').value") == "26")
 
 
 def address(page):
     """The address keeps the state. Controls have names and keys of their own. A page that nobody sees rests."""
-    page.go("#field=__proto__&seed=1e22&at=5&probe=1&wind=9")
-    told = page.js("return notes.at(-1)")
-    check(
-        "wrong addresses end in the default with a word",
-        all(one in told for one in ("field=__proto__", "seed=1e22", "at=5", "probe=1", "wind=9")),
-        told,
-    )
-    edges = "return ['note', 'scene', 'numbers'].map((id) => $(id).getBoundingClientRect()).flatMap(({ left, right }) => [left, right])"
-    left, right, _, first, last, _ = page.js(edges)
+    asked = "field=__proto__", "seed=1e22", "at=5", "probe=1", "wind=9"
+    page.go(f"#{'&'.join(asked)}")
+    told = page.now("notes.at(-1)")
+    check("wrong addresses end in the default with a word", all(one in told for one in asked), told)
+    edges = "['note', 'scene', 'numbers'].map((id) => $(id).getBoundingClientRect()).flatMap(({ left, right }) => [left, right])"
+    left, right, _, first, last, _ = page.now(edges)
     check(
         "which covers the sentence only", first <= left < right <= last, (first, left, right, last)
     )
@@ -339,13 +328,12 @@ def address(page):
     page.wait("shown.painted > 2")
     check(
         "the address keeps the state",
-        page.js("return [head.wind, $('scene').value, head.gas]")
-        == [0.06, "porous medium", "fhp1"],
+        page.now("[head.wind, $('scene').value, head.gas]") == [0.06, "porous medium", "fhp1"],
     )
-    bare = "return [...document.querySelectorAll('button, select, input')].filter((e) => e.id !== 'file' && !(e.ariaLabel && e.getAttribute('aria-keyshortcuts'))).map((e) => e.id)"
-    check("every control has a name and a key", not (found := page.js(bare)), found)
-    keys = page.js(
-        "return [...document.querySelectorAll('[aria-keyshortcuts]')].map((e) => e.getAttribute('aria-keyshortcuts'))"
+    bare = "controls.filter((e) => !(e.ariaLabel && e.getAttribute('aria-keyshortcuts'))).map((e) => e.id)"
+    check("every control has a name and a key", not (found := page.now(bare)), found)
+    keys = page.now(
+        "[...document.querySelectorAll('[aria-keyshortcuts]')].map((e) => e.getAttribute('aria-keyshortcuts'))"
     )
     check("no key is of two controls", len(keys) == len(set(keys)), sorted(keys))
     page.js(
@@ -353,19 +341,23 @@ def address(page):
         "kept(() => { window.isPast = true; })"  # after what was asked for before
     )
     page.wait("window.isPast && shown.queue.length === 2")  # as many as the worker sends ahead
-    first = page.js("return head.generation")
+    first = page.now("head.generation")
     time.sleep(0.5)
-    check("a page that is not painted rests", page.js("return head.generation") == first)
+    check("a page that is not painted rests", page.now("head.generation") == first)
+
+
+def resize(page, width, height):
+    metrics = {"width": width, "height": height, "deviceScaleFactor": 1, "mobile": False}
+    page.driver.execute_cdp_cmd("Emulation.setDeviceMetricsOverride", metrics)
+    page.wait(f"innerWidth === {width} && view.clientWidth === {width} && !screen.isScheduled")
 
 
 def small(page):
     """The windows of small laptops, with the panel folded."""
     page.go(""), page.click("drawer")
     for width, height, least in (1366, 650, 1050), (1024, 700, 960):
-        metrics = {"width": width, "height": height, "deviceScaleFactor": 1, "mobile": False}
-        page.driver.execute_cdp_cmd("Emulation.setDeviceMetricsOverride", metrics)
-        page.wait(f"innerWidth === {width} && view.clientWidth === {width} && !screen.isScheduled")
-        wide = page.js("return head.width * look.place.scale")
+        resize(page, width, height)
+        wide = page.now("head.width * look.place.scale")
         check(f"the lattice is large at {width} x {height}", least <= wide <= width, wide)
 
 
@@ -374,20 +366,18 @@ def phone(room):
     page = Page(room, size=(390, 844), has_fingers=True)
     check(
         "the picture has 90 % of a phone's width",
-        page.js(
-            "return head.width * look.place.scale >= 0.9 * innerWidth && document.documentElement.scrollWidth <= innerWidth"
+        page.now(
+            "head.width * look.place.scale >= 0.9 * innerWidth && document.documentElement.scrollWidth <= innerWidth"
         ),
     )
-    solid = page.js("return head.width * head.height - head.fluid")
+    solid = page.now("solid")
     page.touch([(200, 120)], [(220, 130)], [(240, 150)])
-    page.wait(f"head.width * head.height - head.fluid > {solid}")
+    page.wait(f"solid > {solid}")
     check("one finger draws", True)
-    scale, solid = page.wait(
-        "!marks.pieces.length && [look.place.scale, head.width * head.height - head.fluid]"
-    )
+    scale, solid = page.wait("!marks.pieces.length && [look.place.scale, solid]")
     page.touch([(150, 150), (250, 150)], [(100, 150), (300, 150)])
-    check("two fingers zoom", abs(page.js("return look.place.scale") / scale - 2) < 0.05)
-    check("and draw nothing", page.js("return head.width * head.height - head.fluid") == solid)
+    check("two fingers zoom", abs(page.now("look.place.scale") / scale - 2) < 0.05)
+    check("and draw nothing", page.now("solid") == solid)
     page.click("drawer")
     check("a drawer opens", page.driver.find_element(By.ID, "gas").is_displayed())
     page.click("drawer")
@@ -398,18 +388,18 @@ def phone(room):
 def side(room):
     """A phone on its side."""
     page = Page(room, size=(844, 390), has_fingers=True)
-    wide = page.js("return [innerWidth, head.width * look.place.scale / innerWidth]")
+    wide = page.now("[innerWidth, head.width * look.place.scale / innerWidth]")
     check("on its side too", wide[0] == 844 and 0.9 <= wide[1] <= 1, wide)
     page.click("drawer")
-    lost = "return [...document.querySelectorAll('button, select, input')].filter((e) => e.id !== 'file' && !e.hidden && !e.getClientRects().length).map((e) => e.id)"
-    check("every control can be reached", not page.js(lost), page.js(lost))
+    lost = "controls.filter((e) => !e.hidden && !e.getClientRects().length).map((e) => e.id)"
+    check("every control can be reached", not page.now(lost), page.now(lost))
     page.click("drawer"), page.click("bare")
     check(
         "alone the picture keeps one control",
-        len(page.js(lost)) > 40 and "bare" not in page.js(lost),
+        len(page.now(lost)) > 40 and "bare" not in page.now(lost),
     )
     page.click("bare")
-    check("which shows the others again", "turn" not in page.js(lost))
+    check("which shows the others again", "turn" not in page.now(lost))
     page.click("turn")
     check("the gas turns", page.wait("head.direction < 0 || head.found === 0"))
     end(page, "phone on its side")
@@ -417,11 +407,11 @@ def side(room):
 
 def large(room):
     page = Page(room, "#scene=an L that comes back", (1920, 1080))
-    check("it rests", page.js("return !shown.isRunning && head.generation === 0"))
+    check("it rests", page.now("!shown.isRunning && head.generation === 0"))
     page.click("play"), page.wait("head.generation > 100")
-    wide = page.js("return $('play').clientWidth")
+    wide = page.now("$('play').clientWidth")
     page.pause()
-    check("buttons keep their width", page.js("return $('play').clientWidth") == wide)
+    check("buttons keep their width", page.now("$('play').clientWidth") == wide)
     page.drag("draw", (200, 30), (230, 60))
     page.click("turn")
     check(
@@ -429,7 +419,7 @@ def large(room):
         page.wait("head.found !== null && [head.found, head.generation]") == [0, 0],
     )
     page.click("undo"), page.wait("notes.at(-1).startsWith('The way back has undone')")
-    check("undo then draws nothing", page.js("return head.fluid === head.width * head.height"))
+    check("undo then draws nothing", page.now("head.fluid === head.width * head.height"))
     page.choose("change", scene="HPP's knotted ring beside FHP's")
     check(
         "two gases have both their numbers",
@@ -511,7 +501,7 @@ def desk(room):
         *paused, link, solid = edited
         tried(continues, page, *paused)
         page.go(link)
-        found = page.js("return head.width * head.height - head.fluid")
+        found = page.now("solid")
         check("the address keeps what was drawn", found == solid, (found, solid))
     for part in seeded, cells, probe, keyboard, address, small:
         tried(part, page)

@@ -28,6 +28,9 @@ import { lots } from "../lib/random_numbers.mjs";
 
 const root = new URL("../..", import.meta.url).pathname, [histories = 60, noises = 12] = process.argv.slice(2).map(Number);
 const make = await maker();
+const FIRST = { gas: "fhp1", chirality: "left", width: 128, height: 64, filling: 0.2, wind: 0, keep: false, shape: "none", radius: 4, seed: "3" };
+const DISC = { gas: "fhp-rest", width: 256, height: 128, filling: 0.18, wind: 0.2, keep: true, shape: "disc", radius: 11, seed: "1" };
+const flowOf = (others) => drawn(make, { ...FIRST, ...others });
 
 // -- the way back, through whatever was done
 
@@ -70,7 +73,7 @@ for (let number = 0; number < histories; number++) tried(`history ${number}`, ()
 function undoing(number) {
   const random = lots(9000 + number), gas = random.of(Object.values(GASES)), [width, height] = [30 + random.below(40), 16 + random.below(20)];
   const experiment = Object.assign(new Experiment(), { make }), keep = random.chance() < 0.5;
-  experiment.start({ starts: [{ gas: gas.name, chirality: "left", width, height, wind: 0.1, keep, filling: 0.2, shape: random.of(["none", "disc"]), radius: 4, seed: "1" }], state: "" });
+  experiment.start({ starts: [{ ...FIRST, gas: gas.name, width, height, wind: 0.1, keep, shape: random.of(["none", "disc"]), seed: "1" }], state: "" });
   const [{ flow }] = experiment.watched, solid = () => Array.from({ length: width * height }, (_, at) => flow.cells.isSolid(at));
   const place = () => [random.below(width), random.below(height) * gas.apart], same = (what, isSo) => check(`undoing ${number}: ${what}`, isSo);
   const done = [], forwards = [solid()]; // what can be undone, and the solid cells by generation, before its changes
@@ -129,19 +132,19 @@ for (let number = 0; number < histories; number++) tried(`undoing ${number}`, ()
 
 // A small memory of patches is cut, and the gas comes back to where it still reaches.
 tried("a way back that was cut", () => {
-  const flow = drawn(make, { gas: "fhp1", chirality: "left", width: 128, height: 64, filling: 0.2, wind: 0.1, keep: true, shape: "porous", radius: 4, seed: "3" });
+  const flow = flowOf({ wind: 0.1, keep: true, shape: "porous" });
   flow.history.most = 20000;
   flow.advance(300);
   const { origin: { generation: origin } } = flow.history;
   flow.turn();
   flow.advance(1000);
-  check("a way back that was cut", origin > 0 && flow.generation === origin && flow.found === 0 && flow.notes.some((note) => note.includes("64 MB")),
-    [origin, flow.generation, flow.found]);
+  const isBack = origin > 0 && flow.generation === origin && flow.found === 0;
+  check("a way back that was cut", isBack && flow.notes.some((note) => note.includes("64 MB")), [origin, flow.generation, flow.found]);
 });
 
 // One particle turned on the way changes what comes back.
 tried("one particle turned on the way back", () => {
-  const flow = drawn(make, { gas: "fhp1", chirality: "left", width: 128, height: 64, filling: 0.2, wind: 0, keep: false, shape: "letter", radius: 4, seed: "3" });
+  const flow = flowOf({ shape: "letter" });
   flow.advance(200);
   flow.turn();
   flipOne(flow, [60, 30]);
@@ -153,7 +156,7 @@ tried("one particle turned on the way back", () => {
 
 const view = { field: "vorticity", block: 8, smooth: 1, span: 300, window: null };
 tried("means over time turn with the particles", () => {
-  const flow = drawn(make, { gas: "fhp-rest", chirality: "left", width: 256, height: 128, filling: 0.18, wind: 0.2, keep: true, shape: "disc", radius: 11, seed: "1" });
+  const flow = flowOf(DISC);
   const watched = new Watched(flow), [u, v] = ["u", "v"].map((part) => () => watched.velocity.mean[part].map((value) => value || 0));
   for (let k = 0; k < 20; k++) (watched.advance(5), watched.frame(view, 5));
   const before = [u(), v(), watched.mean.parts[2].slice()];
@@ -162,7 +165,7 @@ tried("means over time turn with the particles", () => {
   [u(), v(), watched.mean.parts[2]].forEach((after, k) => check("means over time turn with the particles", after.every((value, i) => value === -before[k][i])));
 });
 tried("a cone begins anew", () => {
-  const flow = drawn(make, { gas: "fhp1", chirality: "left", width: 128, height: 64, filling: 0.2, wind: 0, keep: false, shape: "none", radius: 4, seed: "3" });
+  const flow = flowOf();
   const watched = new Watched(flow), unlike = () => watched.differences(8, 8)?.reduce((sum, number, k) => sum + (k % 4 === 1 ? number : 0), 0);
   watched.flip(make, [60, 30]);
   watched.advance(20);
@@ -180,9 +183,9 @@ tried("a cone begins anew", () => {
 // -- developed starts
 
 tried("a street that stands at once", () => {
-  const start = { gas: "fhp-rest", shape: "disc", chirality: "left", width: 3200, height: 1016, filling: 0.18, wind: 0.3, radius: 80, keep: true, seed: "2" };
+  const start = { ...DISC, width: 3200, height: 1016, wind: 0.3, radius: 80, seed: "2" };
   const behind = (isDeveloped) => {
-    const flow = drawn(make, { ...start, isDeveloped }), { columns, numbers } = flow.sums(32, 36), { units: [, north] } = flow.gas, middle = 14 * columns;
+    const flow = flowOf({ ...start, isDeveloped }), { columns, numbers } = flow.sums(32, 36), { units: [, north] } = flow.gas, middle = 14 * columns;
     near("its filling", flow.totals()[1] / flow.totals()[0] / 7, 0.18, 0.001);
     near("its wind", flow.totals()[2] / 2 / flow.totals()[1], 0.3, 0.005);
     return Array.from({ length: 40 }, (_, k) => 4 * (middle + 24 + k)).map((at) => (numbers[at + 3] * north) / numbers[at + 1]);
@@ -190,14 +193,14 @@ tried("a street that stands at once", () => {
   const [vortices, even] = [behind(true), behind(false)].map((v) => [Math.min(...v), Math.max(...v)]);
   check("gas flows across behind its disc, to both sides", vortices[0] < -0.1 && vortices[1] > 0.1, vortices);
   check("and does not in a fresh start", even[0] > -0.07 && even[1] < 0.07, even);
-  check("a start without means says so", drawn(make, { ...start, width: 64, height: 64, radius: 4, isDeveloped: true }).notes.length === 1);
+  check("a start without means says so", flowOf({ ...start, width: 64, height: 64, radius: 4, isDeveloped: true }).notes.length === 1);
 });
 
 // -- the drive
 
-const porous = { gas: "fhp1", chirality: "left", width: 256, height: 128, filling: 0.2, wind: 0.1, keep: true, shape: "porous", radius: 6, seed: "1" };
+const porous = { width: 256, height: 128, wind: 0.1, keep: true, shape: "porous", radius: 6, seed: "1" };
 const atPace = (pace) => {
-  const flow = drawn(make, porous);
+  const flow = flowOf(porous);
   for (let g = 0; g < 400; g += pace) flow.advance(pace);
   return [flow.drive.velocity.found, flow.drive.force.found];
 };
@@ -210,7 +213,7 @@ tried("porous flow", () => {
 
 const frameOf = (flow, generations = 1) => new Watched(flow).frame({ field: "speed", block: 8, smooth: 0, span: 1, window: null }, generations);
 tried("the wind after the way back", () => {
-  const flow = drawn(make, porous), { u } = frameOf(flow, 0);
+  const flow = flowOf(porous), { u } = frameOf(flow, 0);
   flow.drive.keep(0.2);
   [0, 1].forEach((turn) => (turn && flow.turn(), flow.advance(300)));
   check("back at the start u is that of its cells", flow.generation === 0 && flow.direction === 1 && frameOf(flow, 0).u === u, u);
@@ -238,8 +241,7 @@ const thin = (gas, particles) => numbersOf({ ...street, gas, directions: 6, part
 check("a thin fhp1 warns, a dense one does not", thin("fhp1", 600) === 1 && thin("fhp1", 1200) === 0);
 check("hpp has no Reynolds number", numbersOf({ ...street, gas: "hpp", directions: 4 }, 100).reynolds === undefined);
 tried("the program's sums of the same cells", () => {
-  const start = { gas: "fhp-rest", chirality: "seeded", width: 256, height: 128, filling: 0.18, wind: 0.2, keep: true, shape: "disc", radius: 11, seed: "1" };
-  const program = process.env.FHPGAS ?? `${root}fhpgas`, flow = drawn(make, start), input = sceneOf(flow);
+  const program = process.env.FHPGAS ?? `${root}fhpgas`, flow = flowOf({ ...DISC, chirality: "seeded" }), input = sceneOf(flow);
   const words = ["coarse", "--generations", "1", "--block-width", "256", "--block-height", "128"];
   const [fluid, particles, px, py] = spawnSync(program, words, { input }).stdout.toString().trim().split("\n")[1].trim().split(/ +/).slice(2).map(Number);
   flow.advance(1);
