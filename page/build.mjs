@@ -22,7 +22,7 @@ function compare(name, version) {
 
 /** A module with all that it imports, as one script. */
 function bundled(name) {
-  return run("esbuild", [name, "--bundle", "--format=iife", "--charset=utf8", "--target=es2022", "--legal-comments=none", "--minify-whitespace"]);
+  return run("esbuild", [name, "--bundle", "--format=iife", "--charset=utf8", "--target=es2022", "--legal-comments=none", "--minify-whitespace", "--minify-syntax"]);
 }
 
 /** The kernel, deflated, in base64: as it was if it is the same module, or if nothing here can build it. */
