@@ -1,5 +1,5 @@
 // What the controls do.
-import { applyState, isShort, setControl, stateText, writeAddress } from "./address.js";
+import { applyState, isShort, setControl, showOpened, stateText, writeAddress } from "./address.js";
 import { record, save } from "./files.js";
 import { GASES } from "./gases.js";
 import { closer, fit, looked } from "./look.js";
@@ -9,7 +9,7 @@ import { repaint, tellNumbers, update } from "./screen.js";
 import { $, amount, asked, chosen, element, head, look, marks, motion, preset, shown, view } from "./state.js";
 import { go, isSlow, move } from "./time.js";
 import { tell } from "./wire.js";
-import { hideNote, introduce, note } from "./words.js";
+import { hideNotes, introduce, note } from "./words.js";
 
 const isStill = matchMedia("(prefers-reduced-motion: reduce)").matches, bodyClass = document.body.classList;
 const before = { pace: "" }; // single cells
@@ -27,9 +27,10 @@ function startsOf(lengths) {
 export function start(hasLength = false, lengths = "") {
   const { rests, length, flips } = preset(), starts = startsOf(lengths), [{ width, height, gas }] = starts;
   const { apart } = GASES[gas];
+  showOpened(false);
   introduce();
   if (!hasLength) setControl("length", Math.round(length ? 2 * amount("radius") : height * apart));
-  hideNote();
+  hideNotes();
   marks.probe = null;
   look.isWhole = true;
   looked();
@@ -74,12 +75,11 @@ function half() {
 
 /** Goes back, if all flows can, or offers a way on. */
 function back(command) {
-  hideNote();
+  hideNotes();
   if (shown.frames.some(({ canTurn }) => !canTurn)) {
     const why = "Pairs turn at random here, and their random bits only run forwards.";
     const offer = element("button", { id: "offer" }, "Go on with left");
     offer.onclick = () => {
-      hideNote();
       setControl("chirality", "left");
       acts.chirality();
     };
@@ -118,7 +118,10 @@ function toggle(id, other) {
 /** Folds the panel where it lies over the picture. */
 const fold = () => matchMedia("(max-width: 899px)").matches && bodyClass.remove("opened");
 
-const command = (name, valueOf = () => ({})) => () => tell(name, valueOf());
+const command = (name, valueOf = () => ({})) => () => {
+  hideNotes();
+  tell(name, valueOf());
+};
 
 export const acts = {
   preset: () => {
@@ -160,7 +163,7 @@ export const acts = {
   length: () => tellNumbers(0),
   back: () => back("back"),
   play: () => {
-    hideNote();
+    hideNotes();
     go(!shown.isRunning);
   },
   step,

@@ -1,7 +1,8 @@
 // The address: after # it has the state of the controls, so that a link shows the same start.
 import { FIELDS } from "./fields.js";
+import { isLengths } from "./lengths.js";
 import { RENAMED } from "./presets.js";
-import { $, chosen, head, look, marks, preset, shown } from "./state.js";
+import { $, chosen, element, head, look, marks, preset, shown } from "./state.js";
 
 export const OPENED = "opened"; // the address of a scene that was opened, which no address has
 const LOW = 480; // pixels of a phone on its side, and lattices that fill its width
@@ -9,6 +10,7 @@ const FLAT = { "1024 x 512": "1024 x 384", "512 x 256": "512 x 192" };
 const MOST_RUNS = 8000; // letters of what was drawn
 const OF_PRESET = ["chirality", "developed", "fill", "wind", "radius", "pace", "smooth", "span", "keep"];
 const CONTROLS = [...OF_PRESET, "gas", "size", "seed", "length", "tracers"];
+const opened = element("option", { value: OPENED }, "an opened scene");
 let written = ""; // by the page
 
 const partOf = ({ type }) => (type === "checkbox" ? "checked" : "value");
@@ -40,14 +42,14 @@ export function applyState(text) {
   const state = new URLSearchParams(text), refused = /** @type {string[]} */ ([]);
   const take = (id) => state.has(id) && !setControl(id, state.get(id)) && refused.push(`${id}=${state.get(id)}`);
   take("scene");
-  chosen.preset = $("scene").value;
+  if ($("scene").value !== OPENED) chosen.preset = $("scene").value;
   const { size, tall, gases: [gas], ...first } = preset(), flat = innerHeight < LOW ? FLAT[size] : undefined;
   for (const id of OF_PRESET) setControl(id, first[id]);
   setControl("gas", gas);
   setControl("size", innerHeight > innerWidth ? tall : flat ?? size);
   if (state.has("seed")) setControl("developed", false); // an older link
   CONTROLS.forEach(take);
-  const field = state.get("field") ?? first.field;
+  const field = state.get("field") ?? first.field, lengths = state.get("runs") ?? "";
   chosen.field = Object.hasOwn(FIELDS, field) ? field : first.field;
   if (chosen.field !== field) refused.push(`field=${field}`);
   /** Three numbers, of which the last is a size. */
@@ -57,7 +59,17 @@ export function applyState(text) {
     if (found) refused.push(`${key}=${state.get(key)}`);
     return null;
   };
-  return { hasLength: state.has("length"), at: numbers("at"), probe: numbers("probe"), lengths: state.get("runs") ?? "", refused };
+  const [width, height] = $("size").value.split(" x "), isDrawn = isLengths(lengths, 64 * Math.ceil(width / 64) * height);
+  if (!isDrawn) refused.push(`runs=${lengths.slice(0, 20)}`);
+  return { hasLength: state.has("length"), at: numbers("at"), probe: numbers("probe"), lengths: isDrawn ? lengths : "", refused };
+}
+
+/** Lets the list of scenes say whether one that was opened is shown. */
+export function showOpened(isOpened) {
+  shown.isOpened = isOpened;
+  if (isOpened) $("scene").append(opened);
+  else opened.remove();
+  $("scene").value = isOpened ? OPENED : chosen.preset;
 }
 
 export const isForeign = () => location.hash !== written;

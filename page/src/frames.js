@@ -41,7 +41,7 @@ export class Watched {
     if (twin || !cone) return;
     if (flow.direction > 0) {
       this.flip(make, cone);
-      flow.notes.push("The gas was changed, so another particle was turned, and the cone begins anew.");
+      flow.notes.splice(-1, 1, "The gas was changed, so another particle was turned, and the cone begins anew.");
     } else if (flow.mark) {
       flow.mark = null;
       flow.notes.push("On the way back nothing is compared: the cone begins anew once time runs forwards.");

@@ -13,6 +13,10 @@ export function lengthsOf(plane, other) {
   return ends.slice(1).map((end, k) => (end - ends[k]).toString(36)).join(".");
 }
 
+/** Whether a text is such a one, of at most so many bits. */
+export const isLengths = (text, most) => !text || (/^[\da-z]+(\.[\da-z]+)*$/.test(text)
+  && text.split(".").reduce((sum, length) => sum + parseInt(length, 36), 0) <= most);
+
 /** The bits of such a text, below `most`. */
 export function* bitsOf(lengths, most) {
   let at = 0, isUnlike = false;

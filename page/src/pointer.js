@@ -3,7 +3,7 @@ import { zoom } from "./look.js";
 import { repaint } from "./screen.js";
 import { GAP, $, amount, chosen, look, marks, paneWidth, shown, view } from "./state.js";
 import { tell } from "./wire.js";
-import { hideNote } from "./words.js";
+import { hideNotes } from "./words.js";
 
 const ARROWS = { ArrowLeft: [-1, 0], ArrowRight: [1, 0], ArrowUp: [0, -1], ArrowDown: [0, 1] };
 const FINGER = 12; // pixels that the first of two fingers may move before the second comes
@@ -70,7 +70,7 @@ export function listenToPointers() {
       gesture.stroke = null;
       return;
     }
-    hideNote();
+    hideNotes();
     const at = placeOf(pointOf(event));
     gesture.isMoving = chosen.tool === "move" || event.button > 0;
     if (gesture.isMoving) return;

@@ -1,5 +1,5 @@
 // What the worker sent is taken: the next frame, perhaps of flows that begin.
-import { OPENED, applyState, setControl, stateText } from "./address.js";
+import { OPENED, applyState, setControl, showOpened, stateText } from "./address.js";
 import { fit, lookAsAsked } from "./look.js";
 import { count } from "./numbers.js";
 import { wallsOf } from "./picture.js";
@@ -7,11 +7,11 @@ import { setProbe } from "./pointer.js";
 import { panes, screen } from "./screen.js";
 import { asked, head, marks, motion, shown } from "./state.js";
 import { isSlow, move, setRunning } from "./time.js";
-import { hideNote, introduce, note } from "./words.js";
+import { hideNotes, introduce, note } from "./words.js";
 
 export function take({ frames, serial, asked: number, canUndo, isRunning, strokes, state, hashes = [] }) {
   const isNew = serial !== shown.serial, before = isNew ? null : head(), { generation, direction } = frames[0];
-  if (isNew || canUndo !== shown.canUndo) screen.toldAt = 0;
+  if (canUndo !== shown.canUndo || direction !== before?.direction) screen.toldAt = 0;
   const isMoved = generation !== before?.generation;
   Object.assign(shown, { frames, serial, canUndo, hashes, isRunning: isSlow() ? shown.isRunning : isRunning });
   marks.pieces.splice(0, strokes);
@@ -53,9 +53,9 @@ function tellReturn(before) {
 
 /** The flows of a state are there, perhaps late, because the controls have asked for others meanwhile. */
 function beginAnew(state, isLate) {
-  shown.isOpened = state === OPENED;
+  showOpened(state === OPENED);
   if (shown.isOpened) {
-    hideNote();
+    hideNotes();
     introduce("A scene that was opened. Run starts it.", "");
     setRunning(false);
   } else if (!isLate && state !== stateText()) {

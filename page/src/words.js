@@ -1,23 +1,27 @@
 // What the page says: what to look at, and notes over it.
 import { said } from "./panel.js";
-import { $, preset, setWords } from "./state.js";
+import { $, element, preset, setWords } from "./state.js";
 
+const MOST_NOTES = 3; // at a time
 export const notes = /** @type {string[]} */ ([]); // all of them
-let timer = 0;
 
 export function introduce(words = preset().look, length = preset().length) {
   setWords($("sentence"), words);
   said.length = length || "the channel's height";
 }
 
-/** @param {string} text @param {"" | "good" | "bad"} kind @param {number} [lasting] seconds */
+/**
+ * Shows a note below those that are there. The same words are there once.
+ * @param {string} text @param {"" | "good" | "bad"} kind @param {number} [lasting] seconds
+ */
 export function note(text, kind, lasting) {
+  const one = element("p", { class: kind });
+  setWords(one, text);
+  const others = [...$("note").children].filter(({ textContent }) => textContent !== one.textContent);
+  $("note").replaceChildren(...others.slice(1 - MOST_NOTES), one);
+  if (lasting) setTimeout(() => one.remove(), 1000 * lasting);
   notes.push(text);
-  setWords($("note"), text);
-  Object.assign($("note"), { className: kind, hidden: false });
-  clearTimeout(timer);
-  if (lasting) timer = window.setTimeout(hideNote, 1000 * lasting);
-  return $("note");
+  return one;
 }
 
-export const hideNote = () => void ($("note").hidden = true);
+export const hideNotes = () => $("note").replaceChildren();

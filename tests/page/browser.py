@@ -244,6 +244,37 @@ def cells(page):
     check("a picture", page.saved("picture", ".png")[:8] == b"\x89PNG\r\n\x1a\n")
     page.click("film"), page.click("play"), page.wait("head.generation > 3000")
     check("a film", page.saved("film", ".webm")[:4] == b"\x1aE\xdf\xa3")
+    scene = "$('scene').selectedOptions[0].text"
+    found = [page.now(scene), page.click("start"), page.wait("head.width > 6"), page.now(scene)]
+    check(
+        "the list says what is shown", found[::3] == ["an opened scene", "flow past a disc"], found
+    )
+
+
+def words(page):
+    """What is said in one moment is seen together, and words change with the picture."""
+    page.go("#scene=one particle turned, and its cone&size=256 x 128")
+    page.js(
+        "window.seen = [], new MutationObserver(() => seen.push($('note').innerText)).observe($('note'), { childList: true })"
+    )
+    page.drag("draw", (60, 30), (80, 50))
+    page.wait("notes.some((text) => text.includes('cells are solid now'))")
+    both = (
+        "seen.some((text) => text.includes('cells are solid now') && text.includes('begins anew'))"
+    )
+    check("a stroke, and that the cone begins anew", page.now(both), page.now("seen"))
+    page.go(QUICK)
+    page.js(  # the clock stands still, so that words change only because the picture does
+        "window.told = [], window.kept = requestAnimationFrame, window.requestAnimationFrame = (paint) => kept(() => {"
+        " paint(1e9); told.push([fhpgas.head().direction, $('numbers').firstChild.className]); })"
+    )
+    page.wait("told.length > 2"), page.click("turn")
+    told = page.wait("told.some(([direction]) => direction < 0) && told")
+    check(
+        "no picture of the way back without the word",
+        all((way < 0) == (kind == "back") for way, kind in told),
+        told,
+    )
 
 
 def probe(page):
@@ -309,7 +340,7 @@ def keyboard(page):
 
 def address(page):
     """The address keeps the state. Controls have names and keys of their own. A page that nobody sees rests."""
-    asked = "field=__proto__", "seed=1e22", "at=5", "probe=1", "wind=9"
+    asked = "field=__proto__", "seed=1e22", "at=5", "probe=1", "wind=9", "runs=hello world"
     page.go(f"#{'&'.join(asked)}")
     told = page.now("notes.at(-1)")
     check("wrong addresses end in the default with a word", all(one in told for one in asked), told)
@@ -359,6 +390,12 @@ def small(page):
         resize(page, width, height)
         wide = page.now("head.width * look.place.scale")
         check(f"the lattice is large at {width} x {height}", least <= wide <= width, wide)
+    resize(page, 500, 800)
+    page.open('gas = "none"\n')
+    page.wait("notes.at(-1) === 'this page does not read the gas none'")
+    edges = "[$('note').firstChild, $('numbers'), $('scene')].map((e) => e.getBoundingClientRect()).map((box) => [box.top, box.bottom])"
+    (top, _), (_, numbers), (_, scene) = page.now(edges)
+    check("a note lies on no number", top >= max(numbers, scene), (top, numbers, scene))
 
 
 def phone(room):
@@ -503,7 +540,7 @@ def desk(room):
         page.go(link)
         found = page.now("solid")
         check("the address keeps what was drawn", found == solid, (found, solid))
-    for part in seeded, cells, probe, keyboard, address, small:
+    for part in seeded, cells, words, probe, keyboard, address, small:
         tried(part, page)
     end(page, "desk")
 
