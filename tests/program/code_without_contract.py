@@ -35,7 +35,8 @@ fn main(rt: HostRuntime) -> std::process::ExitCode {
     let mut input = rt.reader();
     let prompts = is_terminal(&rt, "/proc/self/fd/0");
     let reports = is_terminal(&rt, "/proc/self/fd/2");
-    let mut terminal = crate::terminal::Terminal::new(&rt, prompts, reports);
+    let hints = std::thread::available_parallelism(&rt).is_ok_and(|count| count.get() > 1);
+    let mut terminal = crate::terminal::Terminal::new(&rt, prompts, reports, hints);
     let mut out = rt.stdout();
     match gas_tool::answer(&rt, rt.alloc(), words, &mut input, &mut terminal, &mut out) {
         Ok(()) => std::process::ExitCode::SUCCESS,

@@ -1,9 +1,12 @@
 #!/usr/bin/env python3
 """Runs the program with standard error on a terminal: while generations are computed a line there shows how many, and is wiped before the
-program ends. Standard output has the same bytes as without a terminal, when standard error stays empty. Then with standard input on one,
-when it says that it awaits a scene. Ends with the counts."""
+program ends. Standard output has the same bytes as without a terminal, when standard error stays empty. A run that was not told its threads
+says after a while, once, how to choose them, one that was told or has one processor never. Then with standard input on a terminal, when it
+says that it awaits a scene. Ends with the counts."""
+import concurrent.futures
 import contextlib
 import os
+import pathlib
 import pty
 import re
 import subprocess
@@ -19,6 +22,8 @@ GENERATIONS = 5001  # which take long enough on any machine that a line is due
 BLOCKS = f"coarse --generations {GENERATIONS} --block-width 512 --block-height 512"
 WIPE = "\r\x1b[K"
 LINE = re.compile(re.escape(WIPE) + r"(\d+) of (\d+) generations \((\d+) %\)")
+HINT = f"{WIPE}fhpgas: --threads T prints the same bytes with T threads (docs/PERFORMANCE.md)\r\n"
+LONG_RUN = PROGRAM, "run", "--generations", "1000000"  # is ended when it has shown enough
 
 
 def read_to_end(terminal, told):
@@ -50,7 +55,8 @@ def tells(told):
         total == GENERATIONS and part < total and share == part * 100 // total
         for part, total, share in lines
     )
-    return lines != [] and lines == sorted(lines) and right and LINE.sub("", told) == WIPE
+    rest = LINE.sub("", told).replace(HINT, "", 1)  # which a slow machine says too
+    return lines != [] and lines == sorted(lines) and right and rest == WIPE
 
 
 def is_told(words, is_long):
@@ -76,11 +82,66 @@ def awaits_scene():
     return (process.returncode, answer, told) == (0, scene, line)
 
 
+def shown_until(is_enough, *command):
+    """What the terminal of a long run showed when that was enough, or the run was over, up to the last line, which may be half."""
+    ours, theirs = pty.openpty()
+    process = subprocess.Popen(
+        command, stdin=subprocess.PIPE, stdout=subprocess.DEVNULL, stderr=theirs
+    )
+    os.close(theirs)
+    process.stdin.write(SCENE)
+    process.stdin.close()
+    told = ""
+    with contextlib.suppress(OSError):
+        while not is_enough(told):
+            told += os.read(ours, 65536).decode()
+    process.kill()
+    process.wait()
+    os.close(ours)
+    return told.rpartition(WIPE)[0]
+
+
+def is_said_once():
+    """Whether a run says the hint, and not with each of the lines that follow. Returns the number of lines as well."""
+    told = shown_until(lambda told: len(LINE.findall(told.partition(HINT)[2])) > 3, *LONG_RUN)
+    return LINE.sub("", told) == HINT, len(LINE.findall(told))
+
+
+def is_silent(said, *command):
+    """Whether a run shows as many lines of progress, and nothing else."""
+
+    def is_enough(told):
+        return said.done() and len(LINE.findall(told)) > said.result()[1]
+
+    told = shown_until(is_enough, *command)
+    return LINE.sub("", told) == "" != told
+
+
+def hints():
+    """What is tried of the hint, and whether it is right. All runs go at once, because a hint takes some seconds."""
+    one = str(min(os.sched_getaffinity(0)))
+    with concurrent.futures.ThreadPoolExecutor() as pool:
+        said = pool.submit(is_said_once)
+        told = pool.submit(is_silent, said, *LONG_RUN, "--threads", "2")
+        alone = pool.submit(is_silent, said, "taskset", "--cpu-list", one, *LONG_RUN)
+        yield "the hint", said.result()[0]
+        yield "no hint with --threads", told.result()
+        yield "no hint on one processor", alone.result()
+
+
+def can_choose():
+    """Whether there are processors to choose from. A container may have less time than processors."""
+    quota = pathlib.Path("/sys/fs/cgroup/cpu.max")
+    limit, period = (quota.read_text() if quota.exists() else "max 1").split()
+    return len(os.sched_getaffinity(0)) > 1 and (limit == "max" or int(limit) >= 2 * int(period))
+
+
 cases = {
     words: is_told(words, words.count(str(GENERATIONS)))
     for words in (f"run --generations {GENERATIONS}", BLOCKS, "check", "run --generations 0")
 }
 cases["a scene that is typed"] = awaits_scene()
+cases |= hints() if can_choose() else {}
 for name in (name for name, is_right in cases.items() if not is_right):
     print(f"FAILED: {name}")
 print(f"{sum(cases.values())} passed, {len(cases) - sum(cases.values())} failed")

@@ -8,7 +8,7 @@ use gas_tool::{Fault, UsageFault, answer};
 use std::os::unix::fs::{FileTypeExt, MetadataExt};
 use std::process::ExitCode;
 use std::rt::Files;
-use std::{env, fs};
+use std::{env, fs, thread};
 
 // Whether this is a terminal, by its device's number. Linux's list of devices has consoles and
 // serial lines under 4 and 5, and pseudo terminals under 136 to 143.
@@ -35,7 +35,8 @@ fn main(rt: HostRuntime) -> ExitCode {
     let mut input = rt.reader();
     let prompts = is_terminal(&rt, "/proc/self/fd/0");
     let reports = is_terminal(&rt, "/proc/self/fd/2");
-    let mut terminal = Terminal::new(&rt, prompts, reports);
+    let hints = thread::available_parallelism(&rt).is_ok_and(|count| count.get() > 1);
+    let mut terminal = Terminal::new(&rt, prompts, reports, hints);
     let mut out = rt.stdout();
     match answer(&rt, rt.alloc(), words, &mut input, &mut terminal, &mut out) {
         Ok(()) => ExitCode::SUCCESS,

@@ -1,6 +1,7 @@
 //! Threads that end before what they borrow.
 use crate::rt::HostRuntime;
 use std::io;
+use std::num::NonZeroUsize;
 use std::sync::mpsc::{Receiver, sync_channel};
 pub use std::thread::{Scope, yield_now};
 
@@ -8,6 +9,11 @@ pub use std::thread::{Scope, yield_now};
 pub trait Threads {}
 
 impl Threads for HostRuntime {}
+
+/// The processors that this process may use.
+pub fn available_parallelism<R>(_: &R) -> io::Result<NonZeroUsize> {
+    std::thread::available_parallelism()
+}
 
 /// What a thread promises of its result.
 pub trait Promise<T> {}
