@@ -17,7 +17,7 @@ html_show_copyright = html_copy_source = False
 END
 {
     printf 'fhpgas\n======\n\n.. automodule:: fhpgas\n\n'
-    for module in lattice random_gas blocks fields shapes drive observe pictures theory boltzmann gases scenes plans runs refusals tiles; do
+    for module in lattice random_gas blocks fields shapes drive observe pictures theory boltzmann gases scenes plans beside refusals tiles; do
         printf '%s\n' "$module" "${module//?/-}" '' ".. automodule:: fhpgas.$module" '   :members:' ''
     done
 } > "$room/index.rst"

@@ -24,10 +24,10 @@ if sys.version_info < (3, 11):  # the first word is -m while `python3 -m fhpgas`
     why = "fhpgas needs Python 3.11 or later, and this is Python %d.%d" % sys.version_info[:2]
     raise SystemExit(why) if sys.argv[0] == "-m" else ImportError(why)
 
+from .beside import side_by_side
 from .fault import Fault
 from .plans import plan
 from .refusals import explain
-from .runs import side_by_side
 from .scenes import Summary, check, with_seed
 
 __version__ = "2.0.0"

@@ -15,7 +15,7 @@ from .fault import Fault, integer, real, seed_of
 from .fields import lots_of
 from .gases import TOO_FEW, Array
 from .planes import Cells
-from .runs import counted
+from .progress import counted
 
 if TYPE_CHECKING:
     from .lattice import Lattice

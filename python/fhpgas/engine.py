@@ -26,11 +26,13 @@ import numpy as np
 from numpy.ctypeslib import ndpointer
 
 from . import gas_table
+from .beside import cores_of_call
 from .fault import Fault, integer
 from .fields import Size, number_of
 from .gases import Array
+from .groups import group
 from .program import SYSTEM
-from .runs import cores_of_call, counted, runs
+from .progress import counted
 
 if TYPE_CHECKING:
     from .lattice import Lattice
@@ -135,7 +137,7 @@ def advanced(
     with concurrent.futures.ThreadPoolExecutor(number) as pool:
         each: Any = map if number == 1 else pool.map
         for done in counted(starts, len(starts), "part", progress):
-            runs.get().go_on()
+            group.get().go_on()
             collections.deque(each(functools.partial(advance, done=done), strips), 0)
             source, states = states, source
     source[..., -1] &= np.uint64((1 << (columns - 1) % 64 + 1) - 1)  # no cells are past the width

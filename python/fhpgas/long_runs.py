@@ -12,7 +12,7 @@ from .cells import cells_of
 from .fault import Fault, integer
 from .files import Path, plain_file, write_whole
 from .limits import LAST_OF_SCENE, MOST_GENERATIONS
-from .runs import counted
+from .progress import counted
 from .scenes import naming
 
 if TYPE_CHECKING:

@@ -1,7 +1,7 @@
 """Plans: the stages of a run of the program, the rows per belt, and the threads."""
+from .beside import cores_of_call
 from .fault import integer
 from .limits import CAPACITY, MOST_CAPACITY, MOST_GENERATIONS, MOST_STAGES
-from .runs import cores_of_call
 
 
 def plan(

@@ -11,8 +11,8 @@ import threading
 from typing import Any
 
 from .fault import Fault
+from .groups import group
 from .limits import MOST_BYTES
-from .runs import runs
 
 OWN = pathlib.Path(__file__).resolve().with_name("fhpgas")  # in a wheel
 ABOVE = OWN.parents[2]  # the repository, or the unpacked archive
@@ -66,14 +66,14 @@ def call(scene: bytes, *words: object) -> bytes:
     with _starting:
         command = [*_tied(), str(program_path()), *map(str, words)]
     pipes: dict[str, Any] = dict.fromkeys(("stdin", "stdout", "stderr"), subprocess.PIPE)
-    with runs.get().holding(lambda: subprocess.Popen(command, **pipes)) as process, process:
+    with group.get().holding(lambda: subprocess.Popen(command, **pipes)) as process, process:
         try:
             answer, said = process.communicate(scene)
         except BaseException:
             process.kill()
             raise
     if process.returncode:
-        runs.get().go_on()
+        group.get().go_on()
         line = said.decode(errors="replace").split("\n")[0]
         line = line or f"fhpgas ended with status {process.returncode}"
         raise Fault(line + " (`explain` says where)" * line.startswith("scene: "))

@@ -1,52 +1,16 @@
-"""Runs side by side, what ends them together, and the bars that count their parts."""
+"""Calls side by side, and the cores that each of them may use."""
 import concurrent.futures
-import contextlib
 import contextvars
 import functools
 import os
-import threading
 from collections.abc import Callable, Iterable, Iterator
 from typing import Any
 
-from .fault import Fault
+from .groups import Group, group
+from .progress import counted
 
 # The cores of a run of `side_by_side`, 0 for any other.
 share = contextvars.ContextVar("share", default=0)
-
-
-class Runs:
-    """What goes on in the calls of one `side_by_side`, so that all of it can be ended: programs,
-    and what the calls themselves compute side by side."""
-
-    def __init__(self) -> None:
-        self.lock, self.going, self.are_ended = threading.Lock(), set[Any](), False
-
-    @contextlib.contextmanager
-    def holding(self, begin: Callable[[], Any]) -> Iterator[Any]:
-        """What `begin` returns, unless the runs are ended. It has a method `kill`."""
-        with self.lock:
-            self.go_on()
-            begun = begin()
-            self.going.add(begun)
-        try:
-            yield begun
-        finally:
-            with self.lock:
-                self.going.discard(begun)
-
-    def go_on(self) -> None:
-        """Ends the run that calls it, by a Fault, if all are to end."""
-        if self.are_ended:
-            raise Fault("another run failed, or all were interrupted")
-
-    def kill(self) -> None:
-        with self.lock:
-            self.are_ended = True
-            for each in self.going:
-                each.kill()
-
-
-runs = contextvars.ContextVar("runs", default=Runs())  # of which this call is one
 
 
 def cores_of_call() -> int:
@@ -54,15 +18,6 @@ def cores_of_call() -> int:
     process, or of the machine if the system does not say."""
     affinity = getattr(os, "sched_getaffinity", None)
     return share.get() or (len(affinity(0)) if affinity else os.cpu_count() or 1)
-
-
-def counted(values: Iterable[Any], total: int, unit: str, progress: bool) -> Iterable[Any]:
-    """The values, if progress is asked for with a bar of tqdm."""
-    if not progress:
-        return values
-    from tqdm.auto import tqdm
-
-    return tqdm(values, total=total, unit=unit, leave=False)
 
 
 def side_by_side(
@@ -107,9 +62,10 @@ def side_by_side(
     calls = [functools.partial(alone, function, value) for value in values]
     if executor is not None:
         return _results([executor.submit(call) for call in calls], progress)
-    cores, own = cores_of_call(), Runs()
+    cores, own = cores_of_call(), Group()
     workers = max(1, min(len(calls), cores))
-    with runs.get().holding(lambda: own), concurrent.futures.ThreadPoolExecutor(workers) as threads:
+    pool = concurrent.futures.ThreadPoolExecutor(workers)
+    with group.get().holding(lambda: own), pool as threads:
         try:
             futures = [threads.submit(call, cores // workers, own) for call in calls]
             return _results(futures, progress)
@@ -140,11 +96,11 @@ def _ended(futures: list[concurrent.futures.Future[Any]]) -> Iterator[Any]:
 
 
 def alone(
-    function: Callable[[Any], Any], value: Any, cores: int = 1, own: Runs | None = None
+    function: Callable[[Any], Any], value: Any, cores: int = 1, own: Group | None = None
 ) -> Any:
     """A call of a function beside others, with so many cores, by default in the worker of an
     executor."""
     context = contextvars.copy_context()
     context.run(share.set, cores)
-    context.run(runs.set, own or Runs())
+    context.run(group.set, own or Group())
     return context.run(function, value)
