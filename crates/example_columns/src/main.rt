@@ -1,5 +1,5 @@
 //! Reads a scene from standard input, computes twelve generations by threads, and prints how many
-//! particles each column has then. `docs/LIBRARY.md` takes this program apart.
+//! particles each column has then, and which has the most. `docs/LIBRARY.md` shows two of its loops.
 #![tactic(auto)]
 
 ghost use Rattle.std.specs.Prelude.{◌<◌, ◌≤◌, ◌*◌};
@@ -27,7 +27,22 @@ fn in_column<G: Gas>(lattice: &Lattice<G>, x: u32) -> u64
     total
 }
 
-/// Prints the particles of each column, twelve generations after the scene's.
+/// The column with the most particles, the first of several, and how many these are.
+fn fullest<G: Gas>(lattice: &Lattice<G>) -> (u32, u64)
+    ensures column { result.0 < lattice.now.channel.width }
+    ensures most { result.1 ≤ 8 * lattice.now.channel.height }
+{
+    let (mut column, mut most) = (0, 0);
+    for x in 0..lattice.channel().size().width() {
+        let number = in_column(lattice, x);
+        if number > most {
+            (column, most) = (x, number);
+        }
+    }
+    (column, most)
+}
+
+/// Prints the particles of each column, and the fullest, twelve generations after the scene's.
 fn print_columns<G: Gas + Send, R: Print + Threads + Wait + Sync>(
     rt: &R,
     alloc: Global,
@@ -43,6 +58,8 @@ fn print_columns<G: Gas + Send, R: Print + Threads + Wait + Sync>(
     for x in 0..ended.lattice().channel().size().width() {
         println!(rt; "column {x}: {}", in_column(ended.lattice(), x))?;
     }
+    let (column, most) = fullest(ended.lattice());
+    println!(rt; "the fullest is column {column}, with {most}")?;
     Ok(())
 }
 

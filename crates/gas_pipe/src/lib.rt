@@ -7,8 +7,8 @@
 //!
 //! Runs are defined here. The other items are named here, and promise what the contracts in their
 //! own crates say. The functions of `pass` do nothing: their contracts are the laws of a pass, for
-//! every schedule of its members. `docs/PROVED.md` says it in words, and `docs/LIBRARY.md` takes a
-//! program apart that calls `run`.
+//! every schedule of its members. `docs/PROVED.md` says it in words, and `example_columns` is
+//! a program that calls `run`.
 #![tactic(auto)]
 
 pub mod backoff;

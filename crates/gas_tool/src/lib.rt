@@ -8,7 +8,7 @@
 //!
 //! The calls of the command line, of input and of printed texts are defined in `gas_tool_cli` and
 //! `gas_tool_io`, and named here. `docs/PROVED.md` lists the promises in words, and
-//! `docs/LIBRARY.md` takes a program apart that calls `slurp`.
+//! `example_columns` is a program that calls `slurp`.
 #![tactic(auto)]
 
 pub mod faults;
