@@ -145,7 +145,7 @@ def declared(wheel, is_built):
     is_pure = "Root-Is-Purelib: true" in told
     check("so has the wheel", f"Tag: py3-none-{tag}\n" in told and is_pure != is_built, told)
     check("it has licences", {f"{info}/{name}" for name in NOTICES} <= {*names}, names)
-    check("and what the page shows", "\nClassifier: " in about and "\n# Luqembisho" in about, about)
+    check("and what the page shows", "\nClassifier: " in about and "\n# fhpgas" in about, about)
     parts = [name for name in names if name.startswith("fhpgas/licences/")]
     check("and the notices of the parts", bool(parts) == is_built, names)
     check("types are marked", "fhpgas/py.typed" in names)
