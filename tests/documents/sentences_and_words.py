@@ -1,8 +1,8 @@
 #!/usr/bin/env python3
 """Reads the documents as text. Prints how many words each has, and how many sentences of more than forty words, with --list these too. A
 word has a letter or a digit, so bars of tables are none. Code, tables and headings have no sentences. Paragraphs and items of lists begin
-sentences. Fails if a document has a long sentence and is not in LONG, or a word that is GONE, or more words than MOST_OF it, or if all of
-them, without OWN, have more than MOST. Ends with the counts."""
+sentences. Fails if a document has a long sentence and is not in LONG, or more words than MOST_OF it, or if all of them, without OWN, have
+more than MOST. Ends with the counts."""
 
 import re
 import sys
@@ -13,12 +13,7 @@ MOST_WORDS = 40
 MOST = 24_000
 OWN = ["docs/ANSWERS.md", "docs/DERIVATION.md"]
 LONG = ["docs/ANSWERS.md", "docs/PROVED.md", "bench/LOG.md"]  # promises and figures in a row
-MOST_OF = {"docs/TROUBLE.md": 500, "docs/LESSON.md": 400, "README.md": 950}
-GONE = {  # by docs/GLOSSARY.md each term has one meaning, and stands beside the field's word, in italics
-    r"(?<!\*)\bpipelines?\b": "line",
-    r"\bin place of\b": "instead of",
-    r"\bhas to\b": "must",
-}
+MOST_OF = {"docs/LESSON.md": 400, "README.md": 950}  # a sheet, and what is read first
 
 
 def without_code(text):
@@ -31,13 +26,6 @@ def sentences(text):
         plain = re.sub(r"`[^`]*`", "CODE", " ".join(paragraph.split()))
         plain = re.sub(r"!?\[([^\]]*)\]\([^)]*\)", r"\1", plain)
         yield from re.split(r"(?<=[.!?])[\"')*_]*\s+", plain)
-
-
-def gone(text):
-    """The words of a document that are gone, and the ones that took their place."""
-    plain = re.sub(r"`[^`\n]*`", "", without_code(text))
-    for pattern, instead in GONE.items():
-        yield from ((found[0], instead) for found in re.finditer(pattern, plain))
 
 
 def number_of_words(text):
@@ -54,7 +42,6 @@ def complaints(name, text):
     yield from (f"a long sentence: {it}" for it in found if name not in LONG)
     if number > MOST_OF.get(name, number):
         yield f"more than {MOST_OF[name]} words"
-    yield from (f"'{word}' is gone: {instead}" for word, instead in gone(text))
 
 
 def main():
