@@ -15,6 +15,7 @@ import sys
 import tempfile
 import time
 import unittest.mock
+import venv
 
 sys.path.append(f"{sys.path[0]}/../lib")
 import needs
@@ -292,6 +293,20 @@ class Commands(Case):
                 done = subprocess.run(words, capture_output=True, **given)
                 found = done.returncode, part in done.stdout + done.stderr
                 self.assertEqual(found, (status, True), done)
+
+    def test_a_missing_package_is_named_as_this_python_installs_it(self):
+        """Debian's packages serve the system's Python, which looks for none with `-S`."""
+        venv.create(self.room / "own", symlinks=True)
+        words = "-m fhpgas numbers --filling 0.2 --speed 0.1 --length 9".split()
+        for python, more in (
+            ([self.room / "own/bin/python"], ""),
+            ([needs.SYSTEM, "-S"], ", or Debian's python3-numpy"),
+        ):
+            with self.subTest(python=python):
+                done = subprocess.run([*python, *words], capture_output=True, text=True)
+                wanted = f"lacks the package numpy: pip install numpy{more}\n"
+                self.assertEqual((done.returncode, done.stderr[-len(wanted) :]), (1, wanted), done)
+                self.assertEqual(done.stderr.count("\n"), 1)
 
     def test_an_output_that_takes_no_more_is_one_line(self):
         """It is closed, full at once or after a part, or takes ASCII only. So is memory, and the file of a film."""
