@@ -5,6 +5,7 @@ counts, and says what was left out for want of memory."""
 
 import concurrent.futures
 import functools
+import itertools
 import os
 import pathlib
 import random
@@ -49,9 +50,8 @@ def random_tilings(client, folder):
         if chirality == "seeded" and gas != "hpp":
             tile = 100, tile[1]
         solid = numpy.random.default_rng(number).random(size.shape) < 0.05
-        whole = fhpgas.draw_gas(
-            0.3, 0.2, 0.1, size=size, solid=solid, gas=gas, chirality=chirality, seed=number
-        )
+        known = dict(size=size, gas=gas, chirality=chirality, seed=number)
+        whole = fhpgas.draw_gas(0.3, 0.2, 0.1, solid=solid, **known)
         tiles = fhpgas.tiles.split(client, whole, tile)
         told(f"tiling {number} has tiles of at most {tile}", is_even(tiles, tile))
         sides = [min(chunks) for chunks in tiles.cells.chunks if len(chunks) > 1]
@@ -60,41 +60,30 @@ def random_tilings(client, folder):
         later = tiles.run(generations, min(margin, rng.randint(1, 12)), folder, rng.randint(1, 3))
         told(f"tiling {number} is one run", later.gather() == whole.run(generations))
         told(f"tiling {number} is itself alone", tiles == tiles != later or not generations)
-        told(
-            f"tiling {number} is kept", fhpgas.tiles.load(client, folder).gather() == later.gather()
-        )
+        kept = fhpgas.tiles.load(client, folder)
+        told(f"tiling {number} is kept", kept.gather() == later.gather())
         block = rng.randint(1, 20), rng.randint(1, 20)
         told(f"tiling {number} has its blocks", tiles.blocks(*block) == whole.blocks(*block))
-        known = dict(size=size, gas=gas, chirality=chirality, seed=number)
         X, Y = fhpgas.positions(size, gas)
-        told(
-            f"tiling {number} is drawn as one",
-            fhpgas.tiles.draw_gas(client, 0.3, wave, tile=tile, solid=round_body, **known).gather()
-            == fhpgas.draw_gas(0.3, wave(X, Y), solid=round_body(X, Y), **known),
-        )
-        fillings = 0.3 + 0 * Y, 0.1 + 0.001 * X, numpy.full(size.columns, 0.2)
-        told(
-            f"tiling {number} takes arrays",
-            fhpgas.tiles.draw_gas(
-                client, fillings[number % 3], tile=tile, solid=solid, **known
-            ).gather()
-            == fhpgas.draw_gas(fillings[number % 3], solid=solid, **known),
-        )
+        draw = functools.partial(fhpgas.tiles.draw_gas, client, tile=tile, **known)
+        wanted = fhpgas.draw_gas(0.3, wave(X, Y), solid=round_body(X, Y), **known)
+        drawn = draw(0.3, wave, solid=round_body).gather()
+        told(f"tiling {number} is drawn as one", drawn == wanted)
+        filling = (0.3 + 0 * Y, 0.1 + 0.001 * X, numpy.full(size.columns, 0.2))[number % 3]
+        wanted = fhpgas.draw_gas(filling, solid=solid, **known)
+        told(f"tiling {number} takes arrays", draw(filling, solid=solid).gather() == wanted)
 
 
 def is_even(tiles, tile):
-    """All tiles but the last ones have one size, which is at most the given one, and as few rows
-    and columns of tiles as these have."""
+    """All tiles but the last ones have one size, which is at most the given one, and as few rows and columns of tiles as these have."""
     heights, widths = tiles.cells.chunks
     counts = -(-tiles.size.rows // (tile[1] // 2 * 2)), -(-tiles.size.columns // tile[0])
-    return (
-        (len(heights), len(widths)) == counts
-        and max(heights) <= tile[1]
-        and max(widths) <= tile[0]
-        and all(len({*sides[:-1]}) < 2 and sides[-1] <= sides[0] for sides in (heights, widths))
-        and all(height % 2 == 0 for height in heights[:-1])
-        and all(max(sides) - min(sides) < 2 * len(sides) for sides in (heights, widths))
-    )
+    is_even = all(height % 2 == 0 for height in heights[:-1])
+    for sides, most, count in zip((heights, widths), tile[::-1], counts):
+        is_even &= len(sides) == count and max(sides) <= most
+        is_even &= len({*sides[:-1]}) < 2 and sides[-1] <= sides[0]
+        is_even &= max(sides) - min(sides) < 2 * len(sides)
+    return is_even
 
 
 def wave(X, Y):
@@ -141,10 +130,8 @@ def refusals(client, folder):
     told("nothing is drawn before", not (folder / "drawn").exists())
     told("particles are counted", tiles.particles == tiles.gather().particles)
     told("the tiles are drawn then", (folder / "drawn").exists())
-    told(
-        "steps are those of one run",
-        [each.gather() for each in tiles.every(3, 2)][2] == tiles.gather().run(6),
-    )
+    later = [each.gather() for each in tiles.every(3, 2)][2]
+    told("steps are those of one run", later == tiles.gather().run(6))
     wrong = draw(lambda X, Y: numpy.where(X.size > 1, 2.0, 0.2) + 0 * X)
     refused("what fails in a worker", wrong.wait)
 
@@ -166,10 +153,8 @@ def printed_examples(client, folder):
         told(f"the example of {path} says its chirality", 'chirality="left"' in text)
         known |= {"size": size, "tile": tile}
         drawn = fhpgas.tiles.draw_gas(client, 0.2, east=0.1, **known)
-        told(
-            f"the example of {path} runs",
-            drawn.run(12, margin // 50).gather() == drawn.gather().run(12),
-        )
+        later = drawn.run(12, margin // 50).gather()
+        told(f"the example of {path} runs", later == drawn.gather().run(12))
     part = fhpgas.Lattice(numpy.zeros((64, 1024), numpy.uint8))
     told("Dask knows how long a lattice is", 131072 <= dask.sizeof.sizeof(part) < 132000)
 
@@ -211,8 +196,7 @@ def killed_worker(client, folder):
 
 
 def added_workers(client, folder):
-    """Two workers that come to four when a run has begun compute a tenth of its parts or more. The
-    run waits for them where it draws."""
+    """Two workers that come to four when a run has begun compute a tenth of its parts or more. The run waits for them where it draws."""
 
     def filling(X, Y):
         while X.size > 1 and not (folder / "added").exists():
@@ -226,29 +210,27 @@ def added_workers(client, folder):
         client.wait_for_workers(6)
         (folder / "added").touch()
         run = later.result()
-    told(
-        "a run with added workers is one run",
-        run.gather() == eight_tiles(client, 0.2).gather().run(400),
-    )
+    whole = eight_tiles(client, 0.2).gather().run(400)
+    told("a run with added workers is one run", run.gather() == whole)
     told("added workers compute", sum(worker not in first for worker in parts) >= 8 * 40 // 10)
+
+
+def half_run():
+    return {"size": fhpgas.Size(300, 200), "chirality": "left", "seed": 4}
 
 
 def saved_half(client, folder):
     """Half of a run, saved twice, of which a later client makes the rest."""
-    tiles = fhpgas.tiles.draw_gas(
-        client, 0.2, 0.1, size=fhpgas.Size(300, 200), tile=(100, 64), chirality="left", seed=4
-    )
+    tiles = fhpgas.tiles.draw_gas(client, 0.2, 0.1, tile=(100, 64), **half_run())
     half = tiles.run(20, margin=6).save(folder).run(30, margin=8).save(folder)
     told("saved tiles are those that were computed", half.gather() == tiles.gather().run(50))
     told("old tiles are gone", len([path for path in folder.iterdir() if path.is_dir()]) == 1)
 
 
 def rest_of_a_run(client, folder):
-    whole = fhpgas.draw_gas(0.2, 0.1, size=fhpgas.Size(300, 200), chirality="left", seed=4)
-    told(
-        "a run goes on from its files",
-        fhpgas.tiles.load(client, folder).run(50, margin=8).gather() == whole.run(100),
-    )
+    whole = fhpgas.draw_gas(0.2, 0.1, **half_run()).run(100)
+    later = fhpgas.tiles.load(client, folder).run(50, margin=8)
+    told("a run goes on from its files", later.gather() == whole)
 
 
 def little_memory(client, folder):
@@ -257,23 +239,16 @@ def little_memory(client, folder):
     known = {"size": size, "tile": tile, "chirality": "left", "seed": 5}
     tiles = fhpgas.tiles.draw_gas(client, 0.2, **known).wait()
     before = tiles.particles
-    tiles = tiles.run(4)
-    told(
-        "a lattice that no worker could have keeps its particles",
-        tiles.particles == before > 2**29,
-    )
+    is_kept = tiles.run(4).particles == before > 2**29
+    told("a lattice that no worker could have keeps its particles", is_kept)
 
 
 def large_area(client, folder):
-    """8192 x 8192 cells, full at regular places and with an obstacle, beside the program's table of
-    the same area."""
+    """8192 x 8192 cells, full at regular places and with an obstacle, beside the program's table of the same area."""
     side, generations, block = 8192, 80, 64
-    particles = [
-        [x, y, 63]
-        for y in range(5, side, 29)
-        for x in range(3, side, 23)
-        if not (1000 <= x < 1400 and 3000 <= y < 4200)
-    ]
+    is_inside = lambda x, y: 1000 <= x < 1400 and 3000 <= y < 4200
+    places = itertools.product(range(5, side, 29), range(3, side, 23))
+    particles = [[x, y, 63] for y, x in places if not is_inside(x, y)]
     area = (
         f'version = 2\ngas = "fhp1"\nchirality = "left"\nwidth = {side}\nheight = {side}\n'
         f"solid = [[1000, 3000, 400, 1200]]\nparticles = {particles}\n"
@@ -290,24 +265,17 @@ def large_area(client, folder):
         column, row = cell(X, Y)
         return (column >= 1000) & (column < 1400) & (row >= 3000) & (row < 4200)
 
-    tiles = fhpgas.tiles.draw_gas(
-        client,
-        full_cells,
-        size=fhpgas.Size(side, side),
-        tile=(4096, 2048),
-        solid=obstacle,
-        chirality="left",
-    ).run(generations)
-    told(
-        "8192 x 8192 cells have the program's table",
-        tiles.blocks(block, block) == fhpgas.coarse(area, generations, block, block),
-    )
+    known = {"size": fhpgas.Size(side, side), "tile": (4096, 2048), "chirality": "left"}
+    tiles = fhpgas.tiles.draw_gas(client, full_cells, solid=obstacle, **known).run(generations)
+    wanted = fhpgas.coarse(area, generations, block, block)
+    told("8192 x 8192 cells have the program's table", tiles.blocks(block, block) == wanted)
 
 
 def with_workers(*parts, memory=2_000_000_000):
-    with distributed.LocalCluster(
-        n_workers=4, threads_per_worker=1, dashboard_address=None, memory_limit=memory
-    ) as cluster, distributed.Client(cluster) as client, tempfile.TemporaryDirectory() as name:
+    known = {"n_workers": 4, "threads_per_worker": 1, "dashboard_address": None}
+    with distributed.LocalCluster(**known, memory_limit=memory) as cluster, distributed.Client(
+        cluster
+    ) as client, tempfile.TemporaryDirectory() as name:
         for part, *words in parts:
             part(client, *words or [pathlib.Path(name)])
 
