@@ -1,13 +1,14 @@
 #!/bin/bash
 # Packs the sources as plain Rust into FOLDER, for `cargo build --release --offline` without Python or a network, and what they build for
-# this Linux: the program and a wheel. The builds trust the proofs of TEXT and check no index. The crates of others, with their licences, are
-# the ones with which out/plain was built and tested. No part of the kit is in them.
+# Linux on x86-64, and with the word `aarch64` on ARM 64 too: the program and a wheel. The builds trust the proofs of TEXT and check no index.
+# The crates of others, with their licences, are the ones with which out/plain was built and tested. No part of the kit is in them.
 set -euo pipefail
 shopt -s nullglob
-if [ -z "${2-}" ]; then echo 'usage: plain/archive.sh FOLDER TEXT' >&2; exit 2; fi
+if [ -z "${2-}" ]; then echo 'usage: plain/archive.sh FOLDER TEXT [aarch64]' >&2; exit 2; fi
 mkdir -p "$1"
 folder=$(realpath -- "$1")
 cd "$(dirname "$0")/.."
+top=$PWD
 version=$(sed -n 's/^version: //p' CITATION.cff)
 room=$(mktemp -d)
 trap 'rm -rf "$room"' EXIT
@@ -17,13 +18,13 @@ made=$room/$name
 plain/workspace.py "$made" --proved "$2"
 registry=$(sed -n 's/^directory = "\(.*\)"/\1/p' "$made/.cargo/config.toml")
 cp out/plain/workspace/Cargo.lock LICENSE-MIT LICENSE-APACHE docs/NOTICES.md include/fhpgas.h "$made"
-mkdir -p "$made/vendor" "$room/built/licences/rust"
+mkdir -p "$made/vendor" "$room/licences/rust"
 awk -F '"' '/^name/ { name = $2 } /^version/ { version = $2 } /^source/ { print name "-" version }' "$made/Cargo.lock" | while read -r crate; do
     cp -r "$registry/$crate" "$made/vendor"
     notices=("$made/vendor/$crate"/LICENSE*)
     if [ ${#notices[@]} = 0 ]; then echo "$crate has no licence" >&2; exit 1; fi
-    mkdir "$room/built/licences/${crate%-*}"
-    cp "${notices[@]}" "$room/built/licences/${crate%-*}"
+    mkdir "$room/licences/${crate%-*}"
+    cp "${notices[@]}" "$room/licences/${crate%-*}"
 done
 sed -i 's/^directory = .*/directory = "vendor"/' "$made/.cargo/config.toml"
 cat > "$made/README" << END
@@ -37,18 +38,38 @@ vendor/ has the crates of others, each with its licence (NOTICES.md).
 END
 tar -C "$room" -czf "$folder/$name.tar.gz" "$name"
 
-# from the archive alone, for each level of processors that the package knows
+# build LEVEL WORDS..: from the archive alone, in release/ or in release/ of a target
+build() { env -C "$made" RUSTFLAGS="-Ctarget-cpu=$1" cargo build --release --offline --locked --quiet "${@:2}"; }
+
+# hand_out MACHINE RUSTC RELEASE LIBRARY..: the program, and a wheel with it and the libraries, and with the notices of that Rust's library
+hand_out() {
+    mkdir "$room/$1"
+    cp -r "$room/licences" "$made/target/$3/fhpgas" "${@:4}" "$room/$1"
+    notices=("$("$2" --print sysroot)"/share/doc/rust/COPYRIGHT-library.htm[l] /usr/share/doc/libstd-rust*-dev/copyright)
+    if [ ${#notices[@]} = 0 ]; then echo "the notices of Rust's library are missing" >&2; exit 1; fi
+    cp "${notices[0]}" "$room/$1/licences/rust"
+    cp "$room/$1/fhpgas" "$folder/fhpgas-linux-$1"
+    "$top/tools/wheel.sh" "$folder" "$room/$1"
+}
+
 cd "$room"
 rm -r "$made"
 tar -xzf "$folder/$name.tar.gz"
-build() { env -C "$made" RUSTFLAGS="-Ctarget-cpu=x86-64-$1" cargo build --release --offline --locked --quiet "${@:2}"; }
-build v3 -p engine
-cp "$made/target/release/libfhpgas.so" "$room/built/libfhpgas-x86-64-v3.so"
-build v2
-cp "$made/target/release/libfhpgas.so" "$room/built/libfhpgas-x86-64-v2.so"
-cp "$made/target/release/fhpgas" "$room/built"
-cp "$made/target/release/fhpgas" "$folder"
-notices=("$(rustc --print sysroot)"/share/doc/rust/COPYRIGHT-library.htm[l] /usr/share/doc/libstd-rust*-dev/copyright)
-if [ ${#notices[@]} = 0 ]; then echo "the notices of Rust's library are missing" >&2; exit 1; fi
-cp "${notices[0]}" "$room/built/licences/rust"
-"$OLDPWD/tools/wheel.sh" "$folder" "$room/built"
+build x86-64-v3 -p engine # the levels of processors that the package knows
+cp "$made/target/release/libfhpgas.so" "$room/libfhpgas-x86-64-v3.so"
+build x86-64-v2
+cp "$made/target/release/libfhpgas.so" "$room/libfhpgas-x86-64-v2.so"
+hand_out x86_64 rustc release "$room"/libfhpgas-x86-64-*.so
+
+# the first compiler that has the library of ARM 64, of which Debian has packages
+[ "${3-}" = aarch64 ] || exit 0
+target=aarch64-unknown-linux-gnu
+has_library() { [ -d "$("$1" --print target-libdir --target $target 2> /dev/null)" ]; }
+for rustc in /usr/bin/rustc rustc none; do ! has_library "$rustc" || break; done
+if [ "$rustc" = none ] || ! command -v aarch64-linux-gnu-gcc > /dev/null; then
+    echo 'ARM 64: dpkg --add-architecture arm64; apt-get install rustc-web libstd-rust-web-dev:arm64 gcc-aarch64-linux-gnu' >&2
+    exit 1
+fi
+RUSTC=$rustc CARGO_TARGET_AARCH64_UNKNOWN_LINUX_GNU_LINKER=aarch64-linux-gnu-gcc build generic --target $target
+cp "$made/target/$target/release/libfhpgas.so" "$room/libfhpgas-aarch64.so"
+hand_out aarch64 "$rustc" $target/release "$room/libfhpgas-aarch64.so"

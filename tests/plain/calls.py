@@ -1,6 +1,7 @@
 #!/usr/bin/env python3
 """Compares two libraries of include/fhpgas.h call by call: random lawful and refused calls must return the same status and leave the same
-memory. Without words these are the plain library of `make plain` and the proved one that make left beside the package.
+memory. Without words these are the plain library of `make plain` and the proved one that make left beside the package. For a library of
+another machine PLAIN is a program that calls it (calls.c).
 
     tests/plain/calls.py [PLAIN PROVED [SEED ROUNDS]]
 
@@ -9,6 +10,8 @@ Ends with the counts."""
 import collections
 import itertools
 import pathlib
+import struct
+import subprocess
 import sys
 
 sys.path.append(f"{sys.path[0]}/../lib")
@@ -35,6 +38,27 @@ SIZES = {  # what the calls that return sizes are given
 }
 
 
+class Far:
+    """A library that another process has loaded."""
+
+    def __init__(self, path):
+        self.process = subprocess.Popen([path], stdin=subprocess.PIPE, stdout=subprocess.PIPE)
+
+    def call(self, name, *words):
+        """What a call returns, as engine_calls.Library.call."""
+        arrays = [word for word in words if isinstance(word, np.ndarray)]
+        numbers = words[: len(words) - len(arrays)]
+        ends = [number for array in arrays for number in (array.size, array.nbytes)]
+        head = [*numbers, *[0] * (8 - len(numbers)), *ends, *[0] * (6 - len(ends))]
+        self.process.stdin.write(struct.pack("<16s14Q", name.encode(), *head))
+        self.process.stdin.write(b"".join(array.tobytes() for array in arrays))
+        self.process.stdin.flush()
+        (returned,) = struct.unpack("<Q", self.process.stdout.read(8))
+        for array in arrays:
+            array[...] = np.frombuffer(self.process.stdout.read(array.nbytes), array.dtype)
+        return returned
+
+
 def ended(library, name, words):
     """What a call returns, and copies of its arrays as it leaves them. The room in which `advance` works, its last one, means nothing."""
     words = [word.copy() if isinstance(word, np.ndarray) else word for word in words]
@@ -45,7 +69,7 @@ def ended(library, name, words):
 
 def compare(paths, seed, rounds):
     """How often each call returned each status, in so many rounds of the calls."""
-    libraries = [engine_calls.Library(path) for path in paths]
+    libraries = [(engine_calls.Library if ".so" in it.suffixes else Far)(it) for it in paths]
     calls = engine_calls.Calls(libraries[0], seed, 0.04, WIDTHS, range(1, 41), 12)
     drawn = ((name, calls.draw(name)) for _ in range(rounds) for name in engine_calls.NAMES)
     sizes = ((name, words) for name, known in SIZES.items() for words in known)

@@ -75,8 +75,8 @@ plain=$room/release/plain
 tested() { awk -F '"' '/^name/ { name = $2 } /^version/ { version = $2 } /^source/ { print name "-" version }' out/plain/workspace/Cargo.lock; }
 packed() { tar -tzf "$plain/fhpgas-$version-rust.tar.gz" | sed -n 's|^[^/]*/vendor/\([^/]*\)/.*|\1|p'; }
 try 'plain Rust has the crates that were tested, and no others' diff <(tested | sort) <(packed | sort -u)
-try 'its program says what it trusts' grep -q '(plain Rust, trusts the proofs of a draft of commit .*, not proved)' <("$plain/fhpgas" --version)
-FHPGAS=$plain/fhpgas part tests/program/command_line.py
+try 'its program says what it trusts' grep -q '(plain Rust, trusts the proofs of a draft of commit .*, not proved)' <("$plain/fhpgas-linux-x86_64" --version)
+FHPGAS=$plain/fhpgas-linux-x86_64 part tests/program/command_line.py
 try 'its wheel unpacks' "$python" -m zipfile -e "$plain"/fhpgas-*.whl "$room/plain"
 for level in v2 v3; do
     part tests/plain/calls.py {"$room/plain",python}/fhpgas/libfhpgas-x86-64-$level.so 20 500
