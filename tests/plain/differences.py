@@ -27,6 +27,7 @@ TOML = {
     "a table of version 1.1": ("none = {\n  a = 1,\n}", "not TOML", "unknown key"),
     "a time of version 1.1": ("none = 07:32", "not TOML", "unknown key"),
     "a leap second": ("none = 23:59:60", "not TOML", "unknown key"),
+    "keys nested 100 deep": (f"[{'.'.join(100 * 'a')}]", "unknown key", "not TOML"),
     "a date that is none": ("none = 1979-02-30", "unknown key", "not TOML"),
     "a sign before 0x": ("seed = +0x10", READ, "not TOML"),
 }
