@@ -146,7 +146,8 @@ class Sanitized(unittest.TestCase):
         build = sanitized("thread", OUT / "workspace")
         self.run_plans(build)
         with self.subTest("the line's tests"):
-            done = build.cargo("test", "--package=tests_belt", "--package=tests_pipe", "--lib")
+            crates = "--package=tests_belt", "--package=tests_pipe"
+            done = build.cargo("test", *crates, "--lib", "--no-fail-fast")
             self.assertEqual(done.stdout.count("test result: ok."), 2, done.stderr)
             self.assertEqual(races(done.stderr), [])
         self.assertEqual(self.ring(build), [])
