@@ -21,4 +21,5 @@ if command -v wasm-opt > /dev/null; then
 else
     echo 'page/engine.js is left out: apt-get install binaryen'
 fi
+rm -f ../../python/fhpgas/libfhpgas-* # plain Rust's too, which no wheel of the kit has
 mv $new/*.so ../../python/fhpgas
