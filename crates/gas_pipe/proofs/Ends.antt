@@ -33,14 +33,14 @@ stock_got a b x y row spare step got =
     subst (λ (o : Option RowModel). MayGet stock_gets a o b) (step.lent.0 ∙ ap (λ (t : Sender). t.spare) step.put.0) got
 
 -- an end that may have been given a row
-pub got : (a b : Receiver) (spare : Option RowModel) → MayGet gets a spare b → (b.taken ≡ a.taken) × (b.belt ≡ a.belt)
+got : (a b : Receiver) (spare : Option RowModel) → MayGet gets a spare b → (b.taken ≡ a.taken) × (b.belt ≡ a.belt)
 got a b None is = (ap (λ (r : Receiver). r.taken) is, ap (λ (r : Receiver). r.belt) is)
 got a b (Some row) is = (ap (λ (r : Receiver). r.taken) is.0, ap (λ (r : Receiver). r.belt) is.0)
 
 -- a row was taken
-pub took : (a b : Receiver) (row : RowModel) → Takes takes gets a row b → (b.taken ≡ one_more row a.taken) × (b.belt ≡ a.belt) × (length row ≡ a.belt.width)
-took a b row step =
-    let more = got step.between b step.spare step.got in (
+pub took : (a b : Receiver) (row : RowModel) (spare : Option RowModel) → Takes takes gets a row spare b → (b.taken ≡ one_more row a.taken) × (b.belt ≡ a.belt) × (length row ≡ a.belt.width)
+took a b row spare step =
+    let more = got step.between b spare step.got in (
       more.0 ∙ ap (λ (r : Receiver). r.taken) step.took.0,
       more.1 ∙ ap (λ (r : Receiver). r.belt) step.took.0,
       step.took.1,

@@ -127,8 +127,8 @@ linked_still input own own2 others line same = record {
 pub met_first : {gas : Rules} {input : RunInputModel} {all own : OwnModel} {f : LineFeederModel} {others : List Job} {s : Sender} {now : List CarriedModel} → own ≡ all → f ≡ own.feeder → IsLinked input all others →
     OwnHasCome gas input all → IsOver gas all → s ≡ record f.tx { spare = None } → now ≡ [] → HaveMet gas input own.feeder (own_jobs own ++ others) s now
 met_first {gas = gas} {input = input} {own = own} {f = f} {others = others} {s = s} own_is f_is linked has_come is_over closed none = record {
-  is_input = come.feeder.is_input;
-  long = long input own.feeder.feeder own.feeder.tx.put own.feeder.rx.taken come.feeder.channel over.feeder come.feeder.fed;
+  is_input = come.feeder.fed.is_input;
+  long = long input own.feeder.feeder own.feeder.tx.put own.feeder.rx.taken come.feeder.fed.channel over.feeder come.feeder.fed.fed;
   k = 0;
   put_is = put ∙ sym (on_first input.lattice.channel.height (owes_in gas input) (div_ceil input.plan.generations input.plan.stages) own.feeder.tx.put);
   belts = none;

@@ -3,7 +3,7 @@ ghost use Rattle.std.specs.Prelude.{◌≡◌, ◌<◌, ◌≤◌, ◌+◌, ◌+
 ghost use Rattle.std.specs.Option.{option_to_list};
 ghost use Rattle.gas_pipe_model.specs.Pass.{RunInputModel};
 ghost use Rattle.gas_pipe.specs.Inner.Worker.{Job, job_of, job_in, HasCome, HasFinished, HasEnded};
-ghost use Rattle.gas_pipe.specs.Inner.Feeder.{LineFeederModel, MayHaveFedInput};
+ghost use Rattle.gas_pipe.specs.Inner.Feeder.{LineFeederModel, HasBegun};
 ghost use Rattle.gas_pipe.specs.Inner.Own.{OwnHasCome, IsOver};
 ghost use Rattle.gas_pipe.specs.Inner.Links.{AllHaveCome, IsLinked, worker_of, jobs_of, HaveMet, IsRunOf};
 
@@ -84,7 +84,7 @@ fn make_line<'e, G: Gas>(
     input: &RunInput<'e, G>,
     feeder: Feeder<G>,
 ) -> Result<(Own<'e, G>, Vec<LineWorker<'e, G>>), AllocError>
-    requires begun { MayHaveFedInput G.rules input.now feeder [] [] }
+    requires begun { HasBegun G.rules input.now feeder }
     ensures linked { IfOk result (λ r. IsLinked input.now r.0 (map job_of r.1.items)) }
     ensures own { IfOk result (λ r. OwnHasCome G.rules input.now r.0) }
     ensures come { IfOk result (λ r. AllHaveCome G.rules r.1.items) }
@@ -254,7 +254,7 @@ fn run_in_scope<'s, 'e: 's, G: Gas + Send + 'e, H: Gate + Sync, R: Threads + Wai
     input: &'e RunInput<'e, G>,
     feeder: Feeder<G>,
 ) -> Option<Run<G>>
-    requires begun { MayHaveFedInput G.rules input.now feeder [] [] }
+    requires begun { HasBegun G.rules input.now feeder }
     ensures { IfSome result (λ run. IsRunOf G.rules input.now run) }
 {
     let Ok((mut own, workers)) = make_line(alloc, input, feeder) else {
@@ -281,7 +281,7 @@ pub(crate) fn run_line<G: Gas + Send, H: Gate + Sync, R: Threads + Wait + Sync>(
     input: &RunInput<'_, G>,
     feeder: Feeder<G>,
 ) -> Result<Run<G>, AllocError>
-    requires begun { MayHaveFedInput G.rules input.now feeder [] [] }
+    requires begun { HasBegun G.rules input.now feeder }
     ensures { IfOk result (λ run. IsRunOf G.rules input.now run) }
 {
     let plan = input.span.plan;
@@ -295,7 +295,7 @@ pub(crate) fn run_line<G: Gas + Send, H: Gate + Sync, R: Threads + Wait + Sync>(
         thread::scope_env(),
         rt,
         move |scope| -> Option<Run<G>>
-            requires { MayHaveFedInput G.rules input.now feeder [] [] }
+            requires { HasBegun G.rules input.now feeder }
             ensures { IfSome result (λ run. IsRunOf G.rules input.entry.now run) }
         { run_in_scope(scope, alloc, shared, input, feeder) },
     );

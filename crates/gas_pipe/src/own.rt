@@ -36,7 +36,10 @@ impl<G: Gas> Model for LineFeeder<G> {
 
     ghost view = { λ f. record { feeder = f.feeder; tx = f.tx; rx = f.rx } };
 
-    ghost invariant = { λ f. f.rx.belt.width ≡ f.feeder.channel.width };
+    ghost invariant = { λ f. record {
+      rx_wide : f.rx.belt.width ≡ f.feeder.channel.width;
+      tx_wide : f.tx.belt.width ≡ f.feeder.channel.width;
+    } };
 }
 
 impl<G: Gas> LineFeeder<G> {

@@ -42,12 +42,12 @@ fed_take a b row channel items put take next stray some passes rows gave took h 
     }
 
 -- the next row was put
-pub fed_put : (a b : FeederModel) (row : RowModel) → a ≡ record b { rows = row ∷ b.rows; to_put = b.to_put + 1 } →
+pub fed_put : (a b : FeederModel) (row : RowModel) (n : ℕ) → a ≡ record b { rows = row ∷ b.rows; to_put = b.to_put + 1; spares = n } →
     (passes : ℕ) (rows gave took : List RowModel) → MayHaveFed a passes rows gave took → MayHaveFed b passes rows (gave ++ row ∷ []) took
-fed_put a b row is passes rows gave took was =
+fed_put a b row n is passes rows gave took was =
     by (subst (λ (f : FeederModel). MayHaveFed f passes rows gave took) is was)
   where
-    by : MayHaveFed (record b { rows = row ∷ b.rows; to_put = b.to_put + 1 }) passes rows gave took → MayHaveFed b passes rows (gave ++ row ∷ []) took
+    by : MayHaveFed (record b { rows = row ∷ b.rows; to_put = b.to_put + 1; spares = n }) passes rows gave took → MayHaveFed b passes rows (gave ++ row ∷ []) took
     by h = record {
       no_stray = h.no_stray;
       queue = append_assoc gave (row ∷ []) b.rows ∙ h.queue;

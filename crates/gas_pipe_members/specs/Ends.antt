@@ -12,9 +12,8 @@ pub record Sends {End Row : Type 0} (puts : End → Row → End → Type 0) (len
   pub put : puts old row between
   pub lent : lends between spare new
 
--- the row was taken, and then the end may have been given a row for reuse
-pub record Takes {End Row : Type 0} (takes : End → Row → End → Type 0) (gets : End → Row → End → Type 0) (old : End) (row : Row) (new : End) : Type 0 where
+-- the row was taken, and then the end was given that row for reuse, if there is one
+pub record Takes {End Row : Type 0} (takes : End → Row → End → Type 0) (gets : End → Row → End → Type 0) (old : End) (row : Row) (spare : Option Row) (new : End) : Type 0 where
   pub between : End
-  pub spare : Option Row
   pub took : takes old row between
   pub got : MayGet gets between spare new

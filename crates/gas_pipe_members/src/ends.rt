@@ -1,6 +1,7 @@
 //! The two ends of a belt, and how spare rows go from one end to another.
-ghost use Rattle.std.specs.Prelude.{◌≡◌, ◌++◌, ◌∷◌, ◌+◌, ◌-◌, ◌≤◌, [], Option, Some, None, length, min, OnOk, IfErr, IfSome, IfNone, OnErr, IsOk, IsSome};
+ghost use Rattle.std.specs.Prelude.{◌≡◌, ◌++◌, ◌∷◌, ◌+◌, ◌-◌, ◌<◌, ◌≤◌, [], Option, Some, None, length, vec_len, vec_capacity, min, All, OnOk, IfErr, IfSome, IfNone, OnErr, IsOk, IsSome};
 ghost use Rattle.gas_pipe_members.specs.Ends.{MayGet};
+ghost use Rattle.gas_pipe_members.specs.Feeder.{Keeps};
 
 use gas_belt::rx::Rx;
 use gas_belt::tx::Tx;
@@ -118,22 +119,27 @@ pub(crate) fn return_spare<R: Drop, P: PutEnd<R>, T: TakeEnd<R>>(put: &mut P, ta
     }
 }
 
-/// Keeps the spare row of an end that rows are put on, if it has one and there is room for it.
-pub(crate) fn keep_spare<R: Drop, P: PutEnd<R>>(spares: &mut Vec<R>, put: &mut P)
-    ensures { (spare : Option R) × P.lends put.old spare put.new }
+/// Keeps a row for reuse, if it has that width.
+pub(crate) fn keep_spare<G: Gas>(spares: &mut Vec<Row<G>>, spare: Option<Row<G>>, width: u32)
+    requires room { vec_len spares.old < vec_capacity spares.old }
+    requires wide { All (λ row. length row ≡ width) spares.old.items }
+    ensures wide { All (λ row. length row ≡ width) spares.new.items }
+    ensures kept { Keeps width (vec_len spares.old) spare (vec_len spares.new) }
+    ensures few { vec_len spares.new ≤ vec_len spares.old + 1 }
+    ensures capacity { vec_capacity spares.new ≡ vec_capacity spares.old }
 {
-    if let Some(row) = put.spare() {
-        if spares.len() < spares.capacity() {
+    if let Some(row) = spare {
+        if row.width() == width {
             spares.push_reserved(row);
         }
     }
 }
 
-/// Gives a row that was kept to an end that rows are taken from, if there is one.
-pub(crate) fn give_spare<R: Drop, T: TakeEnd<R>>(spares: &mut Vec<R>, take: &mut T)
-    ensures { (spare : Option R) × MayGet T.gets take.old spare take.new }
+/// Gives a row for reuse to an end that rows are taken from, if there is one.
+pub(crate) fn give_spare<R: Drop, T: TakeEnd<R>>(spare: Option<R>, take: &mut T)
+    ensures { MayGet T.gets take.old spare take.new }
 {
-    if let Some(row) = spares.pop() {
+    if let Some(row) = spare {
         take.give(row);
     }
 }

@@ -4,7 +4,7 @@ ghost use Rattle.gas_geom.specs.Lattice.{IsLattice};
 ghost use Rattle.gas_rows.specs.Row.{RowModel};
 ghost use mathlib.Core.List.{IsPrefix};
 ghost use Rattle.gas_pipe_members.specs.Ends.{Sends, Takes};
-ghost use Rattle.gas_pipe_members.specs.Feeder.{FeederModel, MayHaveFed, FeederTurned, emptied_row, emptied_from};
+ghost use Rattle.gas_pipe_members.specs.Feeder.{FeederModel, MayHaveFed, Keeps, Gives, FeederTurned, emptied_row, emptied_from};
 
 use crate::ends::{PutEnd, TakeEnd, Turned, give_spare, keep_spare};
 use gas_geom::gas::Gas;
@@ -39,7 +39,7 @@ pub struct Feeder<G: Gas> {
 }
 
 impl<G: Gas> Model for Feeder<G> {
-    ghost use Rattle.std.specs.Prelude.{◌≡◌, ◌+◌, ◌≤◌, ◌<◌, true};
+    ghost use Rattle.std.specs.Prelude.{◌≡◌, ◌+◌, ◌≤◌, ◌<◌, true, length, All, vec_len, vec_capacity};
     ghost use Rattle.std.specs.VecDeque.{deque_capacity, deque_len};
     ghost use Rattle.gas_geom.specs.declared.size.TheConstants.{MOST_SIDE};
     ghost use Rattle.gas_pipe_members.specs.Feeder.{FeederModel};
@@ -53,6 +53,7 @@ impl<G: Gas> Model for Feeder<G> {
       to_put = f.to_put;
       to_take = f.to_take;
       next = f.next;
+      spares = vec_len f.spares;
       stray = f.stray;
     } };
 
@@ -62,6 +63,9 @@ impl<G: Gas> Model for Feeder<G> {
       next_within : f.next < f.channel.height;
       few_rows : f.channel.height ≤ MOST_SIDE;
       stray_in_pass : f.stray ≡ true → 0 < f.to_take;
+      places : vec_capacity f.spares ≡ f.channel.height;
+      few_spares : vec_len f.spares + f.to_put ≤ f.to_take;
+      wide_spares : All (λ row. length row ≡ f.channel.width) f.spares.items;
       queue : IsQueue G.rules f.channel f.rows.items f.to_put f.to_take f.next;
     } };
 }
@@ -105,6 +109,7 @@ impl<G: Gas> Feeder<G> {
         requires few { passes ≤ 1000000 }
         ensures channel { self.new.channel ≡ self.old.channel }
         ensures nothing_done { MayHaveFed self.new passes self.old.rows [] [] }
+        ensures no_spares { self.new.spares ≡ 0 }
     {
         let total = passes * u64::from(self.channel.size().height());
         self.to_put = total;
@@ -136,8 +141,9 @@ impl<G: Gas> Feeder<G> {
     // Puts the next row, if one is left to put and the end takes it.
     fn put_next<P: PutEnd<Row<G>>>(&mut self, put: &mut P) -> bool
         ensures put { IsTrue result → (row : RowModel) × (self.old
-            ≡ record self.new { rows = row ∷ self.new.rows; to_put = self.new.to_put + 1 })
-            × (spare : Option RowModel) × Sends P.puts P.lends put.old row spare put.new }
+            ≡ record self.new { rows = row ∷ self.new.rows; to_put = self.new.to_put + 1; spares = self.old.spares })
+            × (spare : Option RowModel) × Sends P.puts P.lends put.old row spare put.new
+            × Keeps self.old.channel.width self.old.spares spare self.new.spares }
         ensures unchanged { IsFalse result → (put.new ≡ put.old) × (self.new ≡ self.old) }
         ensures ready { IsFalse result → 0 < self.old.to_put → 0 < length self.old.rows →
             P.ready put.old → ⊥ }
@@ -151,7 +157,7 @@ impl<G: Gas> Feeder<G> {
         match put.try_put(row) {
             Ok(()) => {
                 self.to_put -= 1;
-                keep_spare(&mut self.spares, put);
+                keep_spare(&mut self.spares, put.spare(), self.channel.size().width());
                 true
             }
             Err(row) => {
@@ -161,8 +167,9 @@ impl<G: Gas> Feeder<G> {
         }
     }
 
-    // Takes the next row of the lattice, with its solid cells empty.
-    fn accept(&mut self, mut row: Row<G>)
+    // Takes the next row of the lattice, with its solid cells empty. Returns one of the rows that it
+    // keeps for reuse.
+    fn accept(&mut self, mut row: Row<G>) -> Option<Row<G>>
         requires owed { self.old.to_put < self.old.to_take }
         requires no_stray { self.old.stray ≡ false }
         requires wide { length row ≡ self.old.channel.width }
@@ -173,12 +180,15 @@ impl<G: Gas> Feeder<G> {
         ensures to_take { self.new.to_take + 1 ≡ self.old.to_take }
         ensures next { self.new.next ≡ (self.old.next + 1) % self.old.channel.height }
         ensures stray { self.new.stray ≡ self.old.stray }
+        ensures given { Gives self.old.channel.width self.old.spares result self.new.spares }
+        ensures given_if_kept { 0 < self.old.spares → self.new.spares < self.old.spares }
         ensures whole { self.new.to_take ≡ 0 → IsLattice G.rules self.new.channel self.new.rows }
     {
         empty_solid(&self.channel, self.next, &mut row);
         self.next = (self.next + 1) % self.channel.size().height();
         self.to_take -= 1;
         self.rows.push_back_reserved(row);
+        self.spares.pop()
     }
 
     /// Makes at most one event: a put of the next row or, if none is left to put or the end hands
@@ -193,9 +203,11 @@ impl<G: Gas> Feeder<G> {
     ) -> Turned
         ensures channel { self.new.channel ≡ self.old.channel }
         ensures turned { FeederTurned self.old self.new
-            (λ row. (spare : Option RowModel) × Sends P.puts P.lends put.old row spare put.new)
+            (λ row. (spare : Option RowModel) × Sends P.puts P.lends put.old row spare put.new
+            × Keeps self.old.channel.width self.old.spares spare self.new.spares)
             (put.new ≡ put.old) (P.ready put.old)
-            (λ row. Takes T.takes T.gets take.old row take.new)
+            (λ row. (spare : Option RowModel) × Takes T.takes T.gets take.old row spare take.new
+            × Gives self.old.channel.width self.old.spares spare self.new.spares)
             (take.new ≡ take.old) (T.ready take.old) result }
         ensures never_ahead { result ≡ Turned.Took → (passes : ℕ) (rows gave took : List RowModel) →
             MayHaveFed self.old passes rows gave took → length took < length gave }
@@ -222,8 +234,8 @@ impl<G: Gas> Feeder<G> {
             self.stray = true;
             return Turned::Stray;
         }
-        self.accept(row);
-        give_spare(&mut self.spares, take);
+        let spare = self.accept(row);
+        give_spare(spare, take);
         Turned::Took
     }
 

@@ -8,7 +8,7 @@ use Rattle.gas_pipe_model.specs.Inner.Line.{after_put, after_take, IsLine}
 use Rattle.gas_pipe_model.specs.Pass.{RunInputModel, line_of, rows_on}
 use Rattle.gas_pipe_members.specs.Belt.{BeltModel}
 use Rattle.gas_pipe_members.specs.Worker.{WorkerModel}
-use Rattle.gas_pipe_members.specs.Feeder.{FeederModel, MayHaveFed, FeederTurned}
+use Rattle.gas_pipe_members.specs.Feeder.{FeederModel, MayHaveFed, Keeps, Gives, FeederTurned}
 use Rattle.gas_pipe_members.specs.Inner.Queue.{emptied}
 use Rattle.gas_pipe_replay.specs.Inner.LocalLine.{belt, Shows}
 use Rattle.gas_pipe_members.specs.declared.ends.Turned.{Turned}
@@ -25,8 +25,8 @@ use Rattle.gas_pipe_model.proofs.Wide.{under_way_is_wide}
 -- what a feeder's turn between two belts of one thread did
 abbrev pub TurnedBetween : FeederModel → FeederModel → BeltModel → BeltModel → BeltModel → BeltModel → Turned → Type 0
 TurnedBetween f v to to2 from from2 r = FeederTurned f v
-    (λ row. (spare : Option RowModel) × PlainSends to row spare to2) (to2 ≡ to) (length to.rows < to.capacity)
-    (λ row. PlainTakes from row from2) (from2 ≡ from) (0 < length from.rows) r
+    (λ row. (spare : Option RowModel) × PlainSends to row spare to2 × Keeps f.channel.width f.spares spare v.spares) (to2 ≡ to) (length to.rows < to.capacity)
+    (λ row. (spare : Option RowModel) × PlainTakes from row spare from2 × Gives f.channel.width f.spares spare v.spares) (from2 ≡ from) (0 < length from.rows) r
 
 -- no belt has more rows put on it than the first
 put_below : (l : Line) → IsLine l → (s : State) → Fits l s → (k : ℕ) → k ≤ l.workers → length (s.put k) ≤ length (s.put 0)
@@ -123,7 +123,7 @@ module _ (gas : Rules) (input : RunInputModel) (f v : FeederModel) (ws : List Wo
   feeder_step : (r : Turned) → v.channel ≡ f.channel → TurnedBetween f v (belt bs 0) q (belt bs last) t r → Shown
   feeder_step Took same c =
       let row : RowModel = c.0 in
-      let step = taken (belt bs last) row t c.1 in
+      let step = taken (belt bs last) row c.1.0 t c.1.1 in
       let holds_t : s.taken last ++ row ∷ t.rows ≡ s.put last = rw (ap (λ (b : BeltModel). b.rows) step) at holds_from in
       let low = sh.is_input.workers in
       let opens : take_open line s last ≡ true = take_opened line s last (longer (s.taken last) row t.rows (s.put last) holds_t) (inl refl) in
@@ -169,7 +169,7 @@ module _ (gas : Rules) (input : RunInputModel) (f v : FeederModel) (ws : List Wo
       (λ more. absurd (omega (arith, more, few, closed, fed.takes, high)))
   feeder_step Stray same c =
       let came = c.2 sh.fed.no_stray in
-      let holds_t : s.taken last ++ came.0 ∷ t.rows ≡ s.put last = rw (ap (λ (b : BeltModel). b.rows) (taken (belt bs last) came.0 t came.1)) at holds_from in
+      let holds_t : s.taken last ++ came.0 ∷ t.rows ≡ s.put last = rw (ap (λ (b : BeltModel). b.rows) (taken (belt bs last) came.0 came.1.0 t came.1.1)) at holds_from in
       absurd (came.3 (under_way_is_wide gas input laws sh.is_input 0 s fits last (omega arith) came.0 t.rows holds_t ∙ sym (ap (λ c. c.width) sh.channel)))
 
   pub feeder_step_at : (r : Turned) (x y : BeltModel) → x ≡ belt bs 0 → y ≡ belt bs last → v.channel ≡ f.channel → TurnedBetween f v x q y t r → Shown

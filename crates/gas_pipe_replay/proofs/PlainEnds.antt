@@ -11,7 +11,7 @@ abbrev pub PlainSends : BeltModel → RowModel → Option RowModel → BeltModel
 PlainSends = Sends (λ old row new. (length old.rows < old.capacity) × (new ≡ record old { rows = old.rows ++ row ∷ [] }))
     (λ old spare new. (spare ≡ None) × (new ≡ old))
 
-abbrev pub PlainTakes : BeltModel → RowModel → BeltModel → Type 0
+abbrev pub PlainTakes : BeltModel → RowModel → Option RowModel → BeltModel → Type 0
 PlainTakes = Takes (λ old row new. old ≡ record new { rows = row ∷ new.rows }) (λ old row new. new ≡ old)
 
 pub got : (old : BeltModel) (spare : Option RowModel) (new : BeltModel) → PlainGets old spare new → new ≡ old
@@ -22,5 +22,5 @@ pub sent : (old : BeltModel) (row : RowModel) (spare : Option RowModel) (new : B
     (length old.rows < old.capacity) × (new ≡ record old { rows = old.rows ++ row ∷ [] })
 sent old row spare new is = (is.put.0, is.lent.1 ∙ is.put.1)
 
-pub taken : (old : BeltModel) (row : RowModel) (new : BeltModel) → PlainTakes old row new → old ≡ record new { rows = row ∷ new.rows }
-taken old row new is = is.took ∙ ap (λ (b : BeltModel). record b { rows = row ∷ b.rows }) (sym (got is.between is.spare new is.got))
+pub taken : (old : BeltModel) (row : RowModel) (spare : Option RowModel) (new : BeltModel) → PlainTakes old row spare new → old ≡ record new { rows = row ∷ new.rows }
+taken old row spare new is = is.took ∙ ap (λ (b : BeltModel). record b { rows = row ∷ b.rows }) (sym (got is.between spare new is.got))

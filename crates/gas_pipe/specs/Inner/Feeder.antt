@@ -1,6 +1,6 @@
 -- Inner words: what functions of this crate promise one another. No public contract cites them.
 -- The feeder of a run.
-use Rattle.std.specs.Prelude.{◌≡◌, ◌<◌, List}
+use Rattle.std.specs.Prelude.{◌≡◌, ◌+◌, ◌<◌, ◌≤◌, List, [], length}
 use Rattle.std.specs.Int.{div_ceil}
 use Rattle.gas_geom.specs.Gas.{Rules}
 use Rattle.gas_rows.specs.Row.{RowModel}
@@ -22,9 +22,17 @@ pub record LineFeederModel : Type 0 where
   pub tx : Sender
   pub rx : Receiver
 
--- in a run of this input it put and took the rows of its ends
-abbrev pub HasFed : Rules → RunInputModel → LineFeederModel → Type 0
-HasFed gas input f = MayHaveFedInput gas input f.feeder f.tx.put f.rx.taken
+-- the feeder of a run of this input, before its first turn
+pub record HasBegun (gas : Rules) (input : RunInputModel) (f : FeederModel) : Type 0 where
+  pub fed : MayHaveFedInput gas input f [] []
+  pub spares : f.spares ≡ 0
+
+-- In a run of this input it put and took the rows of its ends. Of each row that was put and has not come back it keeps the spare row, so the
+-- end that it takes from has two.
+pub record HasFed (gas : Rules) (input : RunInputModel) (f : LineFeederModel) : Type 0 where
+  pub fed : MayHaveFedInput gas input f.feeder f.tx.put f.rx.taken
+  pub spares : f.feeder.spares + length f.rx.taken ≡ length f.tx.put
+  pub held : 2 ≤ f.rx.held
 
 -- they are between the same belts
 pub record SameFeeder (old new : LineFeederModel) : Type 0 where

@@ -38,7 +38,7 @@ pub unreachable-requires : goal.unreachable-requires
 unreachable-requires g c =
     let first = met_first c.own.view_is c.feeder.view_is c.requires.linked c.requires.come c.requires.over c.close.ensures.spent c.requires.none in
     let met = c.in_ok-spent.ensures.met _ _ (c.meet_own-first.ensures.met _ _ _ first) in
-    let begun = (subst (λ (o : OwnModel). OwnHasCome g.G.Gas.rules c.args.input.now o) (sym c.own.view_is) c.requires.come).feeder in
+    let begun = (subst (λ (o : OwnModel). OwnHasCome g.G.Gas.rules c.args.input.now o) (sym c.own.view_is) c.requires.come).feeder.fed in
     let over = subst (λ (o : OwnModel). IsOver g.G.Gas.rules o) (sym c.own.view_is) c.requires.over in
     let f = c.own.inside.feeder in
     let same =
@@ -58,7 +58,7 @@ returns g c =
     let input = c.args.input.now in
     let first = met_first c.own.view_is c.feeder.view_is c.requires.linked c.requires.come c.requires.over c.close.ensures.spent c.requires.none in
     let met = c.in_ok-spent.ensures.met _ _ (c.meet_own-first.ensures.met _ _ _ first) in
-    let begun = (subst (λ (o : OwnModel). OwnHasCome g.G.Gas.rules input o) (sym c.own.view_is) c.requires.come).feeder in
+    let begun = (subst (λ (o : OwnModel). OwnHasCome g.G.Gas.rules input o) (sym c.own.view_is) c.requires.come).feeder.fed in
     let over = subst (λ (o : OwnModel). IsOver g.G.Gas.rules o) (sym c.own.view_is) c.requires.over in
     let ends = c.in-Ok.ensures in
     let last = met_last met ends.equal in

@@ -67,9 +67,13 @@ returns-clause-own g c =
     let gas = g.G.Gas.rules in
     let all = subst (λ (l : List LineWorkerModel). AllHaveCome gas l) (sym c.take_own-own.ensures.all) c.loop-number.invariant.come in
     record {
-      feeder =
-          subst (λ (l : List RowModel). MayHaveFedInput gas c.args.input.now c.args.feeder l c.loop-number.last.taken) (sym c.in_ok-tx.ensures.nothing_put)
-          (subst (λ (l : List RowModel). MayHaveFedInput gas c.args.input.now c.args.feeder [] l) (sym c.loop-number.invariant.nothing_taken) c.requires.begun);
+      feeder = record {
+        fed =
+            subst (λ (l : List RowModel). MayHaveFedInput gas c.args.input.now c.args.feeder l c.loop-number.last.taken) (sym c.in_ok-tx.ensures.nothing_put)
+            (subst (λ (l : List RowModel). MayHaveFedInput gas c.args.input.now c.args.feeder [] l) (sym c.loop-number.invariant.nothing_taken) c.requires.begun.fed);
+        spares = rw (c.in_ok-tx.ensures.nothing_put, c.loop-number.invariant.nothing_taken, c.requires.begun.spares) refl;
+        held = omega (arith, c.loop-number.invariant.two_spares);
+      };
       worker = (come_own gas c.take_own-own.result c.take_own-own.new.workers.items all).0;
     }
 

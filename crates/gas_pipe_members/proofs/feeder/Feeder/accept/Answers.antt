@@ -1,16 +1,17 @@
-use Rattle.std.proofs.Common.{arith, rules, ℕ, ◌≡◌, ◌-◌, ◌+◌, ◌%◌, ◌<◌, ◌≤◌, ◌^◌, ◌∙◌, ap, get_or, subst, sym}
+use Rattle.std.proofs.Common.{arith, rules, ℕ, ◌≡◌, ◌-◌, ◌+◌, ◌%◌, ◌<◌, ◌≤◌, ◌^◌, ◌∙◌, ap, get_or, length, subst, sym}
+use Rattle.std.proofs.lemmas.List.Elements.{All-take}
 use Rattle.gas_rows.specs.Row.{RowModel}
 use Rattle.gas_pipe_members.specs.Feeder.{FeederModel}
 use Rattle.gas_pipe_members.specs.Inner.Queue.{IsQueue}
 use Rattle.gas_pipe_members.proofs.Queues.{queue_take, queue_closed}
 use Rattle.gas_pipe_members.proofs.feeder.Feeder.accept.Given.{Over}
-use Rattle.gas_pipe_members.proofs.feeder.Feeder.accept.Goals.{After-push_back_reserved}
+use Rattle.gas_pipe_members.proofs.feeder.Feeder.accept.Goals.{After-pop}
 use Rattle.gas_pipe_members.proofs.feeder.Feeder.accept.Goals as goal
 
-owed : (g : Over) (c : After-push_back_reserved g) → c.self.inside.to_put < c.self.inside.to_take
+owed : (g : Over) (c : After-pop g) → c.self.inside.to_put < c.self.inside.to_take
 owed g c = subst (λ (f : FeederModel). f.to_put < f.to_take) (sym c.self.view_is) c.requires.owed
 
-queue : (g : Over) (c : After-push_back_reserved g) →
+queue : (g : Over) (c : After-pop g) →
     IsQueue g.G.Gas.rules c.self.inside.channel c.push_back_reserved.new.self.items c.self.inside.to_put (c.self.inside.to_take - 1)
     ((c.self.inside.next + 1) % c.height.result)
 queue g c =
@@ -32,6 +33,9 @@ invariant_of-self g c =
       next_within = search rules;
       few_rows = old.few_rows;
       stray_in_pass = search rules;
+      places = search rules;
+      few_spares = search rules;
+      wide_spares = rw c.pop.ensures.rest (All-take (λ (row : RowModel). length row ≡ c.self.inside.channel.width) _ _ old.wide_spares);
       queue = queue g c;
     }
 

@@ -13,6 +13,9 @@ invariant_of-self g c =
       next_within = omega arith;
       few_rows = old.few_rows;
       stray_in_pass = search rules;
+      places = old.places;
+      few_spares = omega (arith, old.few_spares, closed);
+      wide_spares = old.wide_spares;
       queue =
           queue_begin g.G.Gas.rules c.self.inside.channel c.self.inside.rows.items c.self.inside.to_put c.self.inside.to_take c.self.inside.next
           c.args.passes (c.args.passes * c.from.result) old.queue old.put_first closed (search rules);

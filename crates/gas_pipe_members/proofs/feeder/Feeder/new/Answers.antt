@@ -9,6 +9,9 @@ invariant_of-result g c = record {
   next_within = search rules;
   few_rows = search rules;
   stray_in_pass = search rules;
+  places = search rules;
+  few_spares = search rules;
+  wide_spares = search rules;
   queue = rw c.from.ensures.0
       (queue_new g.G.Gas.rules c.into_rows-channel.result.0 c.into_rows-channel.result.1.items
       (rw (c.into_rows-channel.ensures.channel, c.into_rows-channel.ensures.rows) c.into_rows-channel.ensures.whole));

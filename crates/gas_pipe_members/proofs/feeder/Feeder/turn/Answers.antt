@@ -11,15 +11,19 @@ returns-clause-turned g c =
     let inside : c.self-2.inside.to_put < c.self-2.inside.to_take = omega (arith, c.self-2.invariant.put_first, c.if-self-2.false) in
     let some = subst (λ (f : FeederModel). f.to_put < f.to_take) c.self-2.view_is inside in (
       c.in-Some.row,
-      record { between = c.try_take.new.self; spare = c.give_spare.ensures.0; took = c.in-Some.ensures.take; got = c.give_spare.ensures.1 },
+      (
+        c.accept-spare.result,
+        record { between = c.try_take.new.self; took = c.in-Some.ensures.take; got = c.give_spare.ensures },
+        rw rests.1 at c.accept-spare.ensures.given,
+      ),
       rests.0,
       (λ passes rows gave took fed.
-          subst (λ (f : FeederModel). MayHaveFed f passes rows gave (took ++ c.in-Some.row ∷ [])) (sym c.self-3.view_is)
-          (fed_take c.put_next.new.self c.accept.new.self c.in-Some.row c.accept.ensures.channel c.accept.ensures.rows c.accept.ensures.to_put
-          c.accept.ensures.to_take c.accept.ensures.next c.accept.ensures.stray some passes rows gave took
-          (subst (λ (f : FeederModel). MayHaveFed f passes rows gave took) (sym rests.1) fed))),
+          let did = c.accept-spare.ensures in
+          fed_take c.put_next.new.self c.accept-spare.new.self c.in-Some.row did.channel did.rows did.to_put did.to_take did.next did.stray some passes rows gave took
+          (subst (λ (f : FeederModel). MayHaveFed f passes rows gave took) (sym rests.1) fed)),
       subst (λ (f : FeederModel). f.to_put < f.to_take) rests.1 some,
       c.if-put_next.ensures.ready refl,
+      rw rests.1 at c.accept-spare.ensures.given_if_kept,
     )
 
 pub returns-then-self-eq0-clause-whole : goal.returns-then-self-eq0-clause-whole
@@ -30,8 +34,7 @@ returns-then-self-eq0-clause-whole g c = λ closed.
 
 pub returns-clause-whole : goal.returns-clause-whole
 returns-clause-whole g c = λ closed.
-    subst (λ (f : FeederModel). IsLattice g.G.Gas.rules f.channel f.rows) (sym c.self-3.view_is)
-    (c.accept.ensures.whole (ap (λ (f : FeederModel). f.to_take) (sym c.self-3.view_is) ∙ closed))
+    c.accept-spare.ensures.whole closed
 
 pub returns-clause-never_ahead : goal.returns-clause-never_ahead
 returns-clause-never_ahead g c = λ _ passes rows gave took fed.
