@@ -109,16 +109,6 @@ pub enum Turned {
     Stray,
 }
 
-/// Moves a spare row from the end that it was put on to the end that it was taken from.
-pub(crate) fn return_spare<R: Drop, P: PutEnd<R>, T: TakeEnd<R>>(put: &mut P, take: &mut T)
-    ensures { (spare : Option R) × P.lends put.old spare put.new
-        × MayGet T.gets take.old spare take.new }
-{
-    if let Some(row) = put.spare() {
-        take.give(row);
-    }
-}
-
 /// Keeps a row for reuse, if it has that width.
 pub(crate) fn keep_spare<G: Gas>(spares: &mut Vec<Row<G>>, spare: Option<Row<G>>, width: u32)
     requires room { vec_len spares.old < vec_capacity spares.old }

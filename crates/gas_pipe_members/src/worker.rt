@@ -8,7 +8,7 @@ ghost use Rattle.gas_stage.specs.Stages.{passes_from};
 ghost use Rattle.gas_pipe_members.specs.Ends.{MayGet, Sends};
 ghost use Rattle.gas_pipe_members.specs.Worker.{WorkerModel, SameWorker, IsClosed, MayHaveDone, Does, WorkerTurned, owes, HasDoneAll, HasMoreToTake};
 
-use crate::ends::{PutEnd, TakeEnd, Turned, return_spare};
+use crate::ends::{PutEnd, TakeEnd, Turned, give_spare};
 use gas_geom::gas::Gas;
 use gas_rows::channel::Channel;
 use gas_rows::chirality::Chirality;
@@ -167,7 +167,7 @@ impl<'a, G: Gas> Worker<'a, G> {
     {
         match put.try_put(row) {
             Ok(()) => {
-                return_spare(put, take);
+                give_spare(put.spare(), take);
                 true
             }
             Err(row) => {
