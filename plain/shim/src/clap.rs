@@ -1,7 +1,7 @@
 //! The names of the kit's `clap` over the real one, which wants texts that live for ever: they are
 //! copied, once per run.
 use crate::alloc::{AllocError, Global};
-use crate::string::String as Text;
+use crate::memory::String as Text;
 use ::clap as real;
 use std::borrow::ToOwned;
 use std::boxed::Box;

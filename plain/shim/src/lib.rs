@@ -9,14 +9,12 @@ extern crate std;
 
 pub mod alloc;
 pub mod c;
-pub mod collections;
 mod index;
 pub mod macros;
 pub mod mem;
+pub mod memory;
 pub mod rand_core;
 pub mod simd;
-pub mod string;
-pub mod vec;
 
 #[cfg(feature = "std")]
 pub mod clap;
@@ -48,6 +46,10 @@ pub const BUILD: &str = if CHECKED {
     concat!(env!("CARGO_PKG_DESCRIPTION"), "\0")
 };
 
+pub mod collections {
+    pub use crate::memory::VecDeque;
+}
+
 pub mod marker {
     pub use core::marker::PhantomData;
     /// A type that a contract names as another.
@@ -78,9 +80,8 @@ pub mod fmt {
 /// What each source has without a `use`, and the crates that this one stands for.
 pub mod prelude {
     pub use crate::index::At;
+    pub use crate::memory::{InMemory as _, String, Vec};
     pub use crate::rand_core;
-    pub use crate::string::{InMemory as _, String};
-    pub use crate::vec::{CollectIn as _, SliceIn as _, Vec};
     #[cfg(feature = "std")]
     pub use crate::{
         clap,

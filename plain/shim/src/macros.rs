@@ -2,12 +2,12 @@
 
 #[macro_export]
 macro_rules! shim_vec {
-    (in $alloc:expr; $item:expr; $n:expr) => { $crate::vec::Vec::filled($alloc, $item, $n) };
-    (in $alloc:expr; $($item:expr),* $(,)?) => { $crate::vec::Vec::from_array($alloc, [$($item),*]) };
+    (in $alloc:expr; $item:expr; $n:expr) => { $crate::memory::Vec::filled($alloc, $item, $n) };
+    (in $alloc:expr; $($item:expr),* $(,)?) => { $crate::memory::Vec::from_array($alloc, [$($item),*]) };
 }
 #[macro_export]
 macro_rules! shim_format {
-    (in $alloc:expr; $($text:tt)*) => { $crate::string::String::formatted($alloc, format_args!($($text)*)) };
+    (in $alloc:expr; $($text:tt)*) => { $crate::memory::String::formatted($alloc, format_args!($($text)*)) };
 }
 #[macro_export]
 macro_rules! shim_assert {

@@ -12,13 +12,13 @@ pub mod time {
 }
 
 pub mod env {
-    use crate::string::String;
+    use crate::memory::{Refusable, String};
     use std::io;
     use std::vec::{IntoIter, Vec};
     pub type Args = IntoIter<String>;
     /// The words of the command line. One that is not UTF-8 is an error of kind `InvalidData`.
     pub fn args<R>(_: &R) -> io::Result<Args> {
-        let text = |word: std::ffi::OsString| word.into_string().map(String);
+        let text = |word: std::ffi::OsString| word.into_string().map(Refusable);
         let words: Result<Vec<_>, _> = std::env::args_os().map(text).collect();
         words.map(Vec::into_iter).map_err(|_| io::ErrorKind::InvalidData.into())
     }

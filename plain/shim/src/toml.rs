@@ -1,7 +1,6 @@
 //! The names of the kit's `toml` over the real one.
 use crate::alloc::{AllocError, Global};
-use crate::string::String;
-use crate::vec::Vec;
+use crate::memory::{Refusable, String, Vec};
 use ::toml::Value as Real;
 use std::borrow::Borrow;
 use std::collections::BTreeMap;
@@ -33,9 +32,11 @@ impl Value {
 impl From<Real> for Value {
     fn from(value: Real) -> Value {
         match value {
-            Real::String(text) => Value::String(String(text)),
+            Real::String(text) => Value::String(Refusable(text)),
             Real::Integer(number) => Value::Integer(number),
-            Real::Array(items) => Value::Array(Vec(items.into_iter().map(Value::from).collect())),
+            Real::Array(items) => {
+                Value::Array(Refusable(items.into_iter().map(Value::from).collect()))
+            }
             _ => Value::Other,
         }
     }
@@ -69,7 +70,7 @@ pub fn table_from_slice(_: Global, text: &[u8]) -> Result<Table, Error> {
     let Ok(Real::Table(table)) = text.parse::<Real>() else {
         return Err(Error);
     };
-    let members = table.into_iter().map(|(key, value)| (String(key), Value::from(value)));
+    let members = table.into_iter().map(|(key, value)| (Refusable(key), Value::from(value)));
     Ok(Table(members.collect()))
 }
 
@@ -88,5 +89,5 @@ pub fn table_to_string_pretty(_: Global, table: &Table) -> Result<String, Error>
             Value::Other => return Err(Error),
         };
     }
-    Ok(String(text))
+    Ok(Refusable(text))
 }
