@@ -10,7 +10,7 @@ use std::ops::{RangeFrom, RangeInclusive};
 use std::string::ToString;
 use std::vec::Vec;
 
-pub use crate::shim_value_parser as value_parser;
+pub use crate::macros::value_parser;
 pub use builder::ValueParser;
 pub use real::ArgAction;
 
@@ -27,12 +27,6 @@ pub mod builder {
 impl ValueParser<'_> {
     pub fn any_u32() -> Self { ValueParser::U32(0..=u32::MAX.into(), PhantomData) }
     pub fn range(self, range: RangeInclusive<i64>) -> Self { ValueParser::U32(range, PhantomData) }
-}
-
-#[macro_export]
-macro_rules! shim_value_parser {
-    (u32) => { $crate::clap::ValueParser::any_u32() };
-    (u64) => { $crate::clap::ValueParser::U64 };
 }
 
 impl From<ValueParser<'_>> for real::builder::ValueParser {

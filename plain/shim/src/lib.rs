@@ -16,28 +16,24 @@ pub mod memory;
 pub mod rand_core;
 pub mod simd;
 
-#[cfg(feature = "std")]
-pub mod clap;
-#[cfg(feature = "std")]
-pub mod rt;
-#[cfg(feature = "std")]
-pub mod rtrb;
-#[cfg(feature = "std")]
-pub mod sync;
-#[cfg(feature = "std")]
-pub mod system;
-#[cfg(feature = "std")]
-pub mod thread;
-#[cfg(feature = "std")]
-pub mod toml;
-
-pub use index::{At, CHECKED, unreached};
+/// What needs a system.
+macro_rules! with_a_system {
+    ($($item:item)*) => { $(#[cfg(feature = "std")] $item)* };
+}
+with_a_system! {
+    pub mod clap;
+    pub mod rt;
+    pub mod rtrb;
+    pub mod sync;
+    pub mod system;
+    pub mod thread;
+    pub mod toml;
+    pub use std::io;
+    pub use system::{env, fs, os, process, test, time};
+}
 
 pub use core::hint;
-#[cfg(feature = "std")]
-pub use std::io;
-#[cfg(feature = "std")]
-pub use system::{env, fs, os, process, test, time};
+pub use index::{At, CHECKED, unreached};
 
 /// What this build is, for `fhpgas --version` and, with the zero that ends a text of C, the library.
 pub const BUILD: &str = if CHECKED {

@@ -33,6 +33,11 @@ macro_rules! shim_eprint {
 macro_rules! shim_eprintln {
     ($rt:expr; $($text:tt)*) => { $crate::rt::eprint(&$rt, format_args!("{}\n", format_args!($($text)*))) };
 }
+#[macro_export]
+macro_rules! shim_value_parser {
+    (u32) => { $crate::clap::ValueParser::any_u32() };
+    (u64) => { $crate::clap::ValueParser::U64 };
+}
 /// `main` of a program that takes the runtime. On Unix it is C's, because Rust's opens files in the
 /// places of standard streams that are closed.
 #[macro_export]
@@ -42,11 +47,11 @@ macro_rules! shim_main {
         #[unsafe(no_mangle)]
         pub extern "C" fn main() -> i32 { $start($crate::rt::host()).0 }
         #[cfg(not(unix))]
-        fn main() -> $result { $start($crate::rt::host()) }
+        fn main() { ::std::process::exit($start($crate::rt::host()).0) }
     };
 }
 pub use crate::{
     shim_assert as assert, shim_assert_eq as assert_eq, shim_eprint as eprint,
     shim_eprintln as eprintln, shim_format as format, shim_main as main, shim_print as print,
-    shim_unreachable as unreachable, shim_vec as vec,
+    shim_unreachable as unreachable, shim_value_parser as value_parser, shim_vec as vec,
 };

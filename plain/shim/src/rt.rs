@@ -22,47 +22,32 @@ pub fn host() -> HostRuntime {
     HostRuntime
 }
 
-impl HostRuntime {
-    pub fn alloc(&self) -> Global { Global }
-    pub fn reader(&self) -> Stream { Stream(0) }
-    pub fn stdout(&self) -> Stream { Stream(1) }
-}
-
 /// A standard stream without a buffer of Rust's, so that the caller sees every failure. Rust's own
 /// takes a closed stream for an empty one.
-pub struct Stream(i32);
-
 #[cfg(unix)]
-impl Stream {
-    fn file(&self) -> std::mem::ManuallyDrop<std::fs::File> {
-        use std::os::fd::FromRawFd;
-        // SAFETY: the file is the process's own, and it is not closed here.
-        std::mem::ManuallyDrop::new(unsafe { std::fs::File::from_raw_fd(self.0) })
-    }
+fn stream(number: i32) -> &'static std::fs::File {
+    use std::os::fd::FromRawFd;
+    // SAFETY: the file is the process's own, and it is never closed.
+    std::boxed::Box::leak(std::boxed::Box::new(unsafe { FromRawFd::from_raw_fd(number) }))
 }
 
-impl Read for Stream {
+impl HostRuntime {
+    pub fn alloc(&self) -> Global { Global }
     #[cfg(unix)]
-    fn read(&mut self, bytes: &mut [u8]) -> io::Result<usize> { self.file().read(bytes) }
+    pub fn reader(&self) -> impl Read + use<> { stream(0) }
     #[cfg(not(unix))]
-    fn read(&mut self, bytes: &mut [u8]) -> io::Result<usize> { io::stdin().read(bytes) }
-}
-
-impl Write for Stream {
+    pub fn reader(&self) -> impl Read + use<> { io::stdin() }
     #[cfg(unix)]
-    fn write(&mut self, bytes: &[u8]) -> io::Result<usize> { self.file().write(bytes) }
+    pub fn stdout(&self) -> impl Write + use<> { stream(1) }
     #[cfg(not(unix))]
-    fn write(&mut self, bytes: &[u8]) -> io::Result<usize> { io::stdout().write(bytes) }
-    fn flush(&mut self) -> io::Result<()> {
-        if cfg!(unix) { Ok(()) } else { io::stdout().flush() }
-    }
+    pub fn stdout(&self) -> impl Write + use<> { io::stdout() }
 }
 
 /// What a call may do that has the runtime.
 macro_rules! leaves {
     ($($leave:ident)*) => { $(pub trait $leave {} impl $leave for HostRuntime {})* };
 }
-leaves! { Clock Eprint Files Print }
+leaves! { Abort Clock Eprint Files Print Threads }
 
 pub fn print<R: ?Sized>(_: &R, text: Arguments<'_>) -> io::Result<()> {
     let mut out = io::stdout();

@@ -39,28 +39,26 @@ pub mod fs {
             _ => Err(io::ErrorKind::NotFound.into()),
         }
     }
-    impl super::os::unix::fs::MetadataExt for Metadata {
+    pub trait MetadataExt {
         fn rdev(&self) -> u64 { 4 << 8 }
     }
-    impl super::os::unix::fs::FileTypeExt for Metadata {
+    impl MetadataExt for Metadata {}
+    pub trait FileTypeExt {
+        fn is_char_device(&self) -> bool;
+    }
+    impl FileTypeExt for Metadata {
         fn is_char_device(&self) -> bool { self.0 }
     }
 }
 
 pub mod os {
     pub mod unix {
-        pub mod fs {
-            pub trait MetadataExt {
-                fn rdev(&self) -> u64;
-            }
-            pub trait FileTypeExt {
-                fn is_char_device(&self) -> bool;
-            }
-        }
+        pub use crate::fs;
     }
 }
 
 pub mod process {
+    pub use crate::rt::Abort;
     /// The status that a program ends with.
     pub struct ExitCode(pub i32);
     impl ExitCode {
@@ -69,24 +67,17 @@ pub mod process {
     impl From<u8> for ExitCode {
         fn from(status: u8) -> Self { ExitCode(status.into()) }
     }
-    impl std::process::Termination for ExitCode {
-        fn report(self) -> std::process::ExitCode { std::process::ExitCode::from(self.0 as u8) }
-    }
-    /// Leave to end the process.
-    pub trait Abort {}
-    impl Abort for crate::rt::HostRuntime {}
 }
 
 pub mod test {
-    use std::boxed::Box;
-    use std::string::{String, ToString};
+    use std::{boxed::Box, error::Error};
     /// Why a test failed that used `?`.
     #[derive(Debug)]
-    pub struct Fail(#[allow(dead_code)] String);
+    pub struct Fail(#[allow(dead_code)] Box<dyn Error>);
     impl Fail {
-        pub fn new(why: &str) -> Fail { Fail(why.into()) }
+        pub fn new(why: &str) -> Fail { why.into() }
     }
-    impl<E: Into<Box<dyn std::error::Error>>> From<E> for Fail {
-        fn from(error: E) -> Fail { Fail(error.into().to_string()) }
+    impl<E: Into<Box<dyn Error>>> From<E> for Fail {
+        fn from(error: E) -> Fail { Fail(error.into()) }
     }
 }

@@ -1,14 +1,9 @@
 //! Threads that end before what they borrow.
-use crate::rt::HostRuntime;
+pub use crate::rt::Threads;
 use std::io;
 use std::num::NonZeroUsize;
 use std::sync::mpsc::{Receiver, sync_channel};
 pub use std::thread::{Scope, yield_now};
-
-/// Leave to start threads.
-pub trait Threads {}
-
-impl Threads for HostRuntime {}
 
 /// The processors that this process may use.
 pub fn available_parallelism<R>(_: &R) -> io::Result<NonZeroUsize> {
@@ -53,11 +48,9 @@ impl<'s, 'e> ScopeExt<'s> for Scope<'s, 'e> {
 }
 
 /// What a scope borrows, for contracts only.
-pub struct ScopeEnv;
+pub fn scope_env() {}
 
-pub fn scope_env() -> ScopeEnv { ScopeEnv }
-
-pub fn scope<'e, R, F, T>(_: ScopeEnv, _: &'e R, work: F) -> T
+pub fn scope<'e, R, F, T>(_: (), _: &'e R, work: F) -> T
 where
     F: for<'s> FnOnce(&'s Scope<'s, 'e>) -> T,
 {
@@ -65,12 +58,11 @@ where
 }
 
 /// Two calls at once, the first on a thread of its own.
-pub fn join<R, F, G, A, B>(_: &R, first: F, second: G) -> (A, B)
-where
-    F: FnOnce() -> A + Send,
-    G: FnOnce() -> B,
-    A: Send,
-{
+pub fn join<R, A: Send, B>(
+    _: &R,
+    first: impl FnOnce() -> A + Send,
+    second: impl FnOnce() -> B,
+) -> (A, B) {
     std::thread::scope(|scope| {
         let started = scope.spawn(first);
         let second = second();
