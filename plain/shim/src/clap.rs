@@ -123,7 +123,6 @@ pub mod error {
     }
 }
 
-#[derive(Debug)]
 pub struct Error(real::Error);
 
 impl Error {

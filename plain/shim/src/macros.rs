@@ -3,7 +3,6 @@
 #[macro_export]
 macro_rules! shim_vec {
     (in $alloc:expr; $item:expr; $n:expr) => { $crate::memory::Vec::filled($alloc, $item, $n) };
-    (in $alloc:expr; $($item:expr),* $(,)?) => { $crate::memory::Vec::from_array($alloc, [$($item),*]) };
 }
 #[macro_export]
 macro_rules! shim_format {

@@ -3,7 +3,6 @@ use crate::alloc::Global;
 use std::fmt::Arguments;
 use std::io::{self, Read, Write};
 
-#[derive(Clone, Copy, Debug)]
 pub struct HostRuntime;
 
 /// The runtime, for `main` and for tests.

@@ -2,11 +2,10 @@
 use crate::alloc::{AllocError, Global};
 use crate::memory::{Refusable, String, Vec};
 use ::toml::Value as Real;
-use std::borrow::Borrow;
 use std::collections::BTreeMap;
+use std::string::String as Text;
 
 /// A value, of the kinds that scenes have.
-#[derive(Debug)]
 pub enum Value {
     String(String),
     Integer(i64),
@@ -42,22 +41,17 @@ impl From<Real> for Value {
     }
 }
 
-impl Borrow<str> for String {
-    fn borrow(&self) -> &str { self }
-}
-
-pub struct Table(BTreeMap<String, Value>);
+pub struct Table(BTreeMap<Text, Value>);
 
 impl Table {
     pub fn new(_: Global) -> Table { Table(BTreeMap::new()) }
     pub fn get(&self, key: &str) -> Option<&Value> { self.0.get(key) }
-    pub fn keys(&self) -> impl Iterator<Item = &String> { self.0.keys() }
+    pub fn keys(&self) -> impl Iterator<Item = &Text> { self.0.keys() }
     pub fn insert(&mut self, key: String, value: Value) -> Result<Option<Value>, AllocError> {
-        Ok(self.0.insert(key, value))
+        Ok(self.0.insert(key.0, value))
     }
 }
 
-#[derive(Debug)]
 pub struct Error;
 
 impl Error {
@@ -70,20 +64,20 @@ pub fn table_from_slice(_: Global, text: &[u8]) -> Result<Table, Error> {
     let Ok(Real::Table(table)) = text.parse::<Real>() else {
         return Err(Error);
     };
-    let members = table.into_iter().map(|(key, value)| (Refusable(key), Value::from(value)));
+    let members = table.into_iter().map(|(key, value)| (key, Value::from(value)));
     Ok(Table(members.collect()))
 }
 
 /// The text of a table of numbers, plain texts and lists of plain texts, as the kit lays it out.
 pub fn table_to_string_pretty(_: Global, table: &Table) -> Result<String, Error> {
-    let mut text = std::string::String::new();
+    let mut text = Text::new();
     for (key, value) in &table.0 {
         text += &match value {
             Value::Integer(number) => std::format!("{key} = {number}\n"),
             Value::String(word) => std::format!("{key} = \"{word}\"\n"),
             Value::Array(rows) => {
                 let line = |row: &Value| row.as_str().map(|row| std::format!("    \"{row}\",\n"));
-                let lines: Option<std::string::String> = rows.iter().map(line).collect();
+                let lines: Option<Text> = rows.iter().map(line).collect();
                 std::format!("{key} = [\n{}]\n", lines.ok_or(Error)?)
             }
             Value::Other => return Err(Error),
