@@ -242,10 +242,9 @@ class Blocks(Value):
     def pressure(self) -> Array:
         """The pressure per cell at equilibrium, to second order in the speed u.
 
-        It is c^2 density (1 - k g u^2), where c is the speed of sound, k is 1 in `fhp1` and 5/6
-        in `fhp-rest`, and g = (b/12) (1 - 2d) / (1 - d) at the filling d (docs/PHYSICS.md). Per
-        area divide by the rows' distance. In `hpp`, whose stress is not isotropic, it is c^2
-        density."""
+        It is c^2 density (1 - k g u^2), where c is the speed of sound, k = 2 - 1/(2 c^2), and
+        g = (b/12) (1 - 2d) / (1 - d) at the filling d. On the square lattice, where the stress is
+        not isotropic, it is c^2 density. Per area divide by the rows' distance."""
         square, b = float((self.gas.velocities[:, 0] ** 2).mean()), self.gas.directions
         k = 0 if self.gas.is_square else 2 - 1 / (2 * square)
         with np.errstate(divide="ignore", invalid="ignore"):

@@ -73,7 +73,7 @@ class Gas:
     row_distance, shift : float
         Rows are so far apart, and odd ones lie so far to the east.
     is_square : bool
-        True for `hpp`.
+        Whether it is on the square lattice, as `hpp` is.
     bits : array of shape (128, b)
         The particles of a state by direction.
     number, px, py : array of int of shape (128,)
@@ -83,7 +83,8 @@ class Gas:
     """
 
     def __init__(self, name: str):
-        self.name, (momenta, units, self._cycles) = name, gas_table.GASES[name]
+        self.name, row = name, gas_table.GASES[name]
+        momenta, units, self._cycles = row.momenta, row.units, row.cycles
         self.directions, self.row_distance = len(momenta), float(units[1])
         self.is_square = units[0] == units[1]
         self.shift = 0.0 if self.is_square else 0.5

@@ -32,11 +32,11 @@ class Lattice(Value):
     ----------
     states : array of int of shape (rows, columns)
         1 to 65536 cells each way, row 0 at the top. Bit i is a particle in direction i: E, NE, NW,
-        W, SW, SE in `fhp1`, the same and rest in `fhp-rest`, E, N, W, S in `hpp`. North is up.
+        W, SW, SE, then rest if the gas has it, or in `hpp` E, N, W, S. North is up.
     solid : array of bool of shape (rows, columns), optional
         The solid cells, whose states are 0. By default none.
     gas : str or Gas, optional
-        "fhp1", "fhp-rest" or "hpp".
+        One of `GASES`, such as "fhp1".
     chirality : {"seeded", "left", "right"}, optional
         The side to which head-on pairs turn.
     seed : int or numpy.random.SeedSequence, optional

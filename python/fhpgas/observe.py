@@ -105,7 +105,7 @@ def staggered(lattice: Lattice) -> tuple[int, ...]:
     Parameters
     ----------
     lattice : Lattice
-        Of `fhp1` or `fhp-rest`.
+        On the triangular lattice.
 
     Returns
     -------
@@ -127,7 +127,7 @@ def staggered(lattice: Lattice) -> tuple[int, ...]:
     """
     gas, found = lattice.gas, []
     if gas.is_square:
-        raise Fault("hpp keeps the momentum along each row instead: `px` of blocks of a row")
+        raise Fault(f"{gas} keeps the momentum along each row instead: `px` of blocks of a row")
     columns, rows = lattice.size
     y, x = np.ogrid[:rows, :columns]
     for axis in range(1 if columns % 2 else 3):

@@ -13,12 +13,11 @@ from typing import Any
 from .gas_table import CHIRALITIES, GASES
 from .limits import MOST_BYTES
 
-STATES = {name: 1 << len(momenta) for name, (momenta, *_) in GASES.items()}
+STATES = {name: 1 << len(gas.momenta) for name, gas in GASES.items()}
 WORDS: dict[str, Iterable[str]] = {"gas": STATES, "chirality": CHIRALITIES}  # keys with texts
-# What gases are called in print, in small letters and without hyphens; None if the program lacks
-# the gas.
-PUBLISHED: dict[str, str | None] = {"fhp3": None, "fhpiii": None, "hpp": "hpp"}
-PUBLISHED |= {"fhpi": "fhp1", "fhp2": "fhp-rest", "fhpii": "fhp-rest"}
+# What gases are called in print; None if the program lacks the gas.
+PUBLISHED: dict[str, str | None] = {"fhp3": None, "fhpiii": None}
+PUBLISHED |= {word: name for name, gas in GASES.items() for word in gas.in_print}
 MOST_SIDE = {1: 4096, 2: 65536}
 INTEGERS = ("version", "generation", "seed", "width", "height", "rate")
 LISTS = {"solid": (4, "[x, y, w, h]"), "particles": (3, "[x, y, state]")}

@@ -16,11 +16,12 @@ import numpy as np
 from .boltzmann import collision_matrix, pair_closure
 from .fault import Fault, integer, real
 from .fields import equilibrium
+from .gas_table import GASES
 from .gases import Array, Gas, array_of, chirality_named, gas_named
 
 
 def sound_speed(gas: str | Gas) -> float:
-    """The speed of sound: 1/sqrt(2), and sqrt(3/7) in `fhp-rest`.
+    """The speed of sound, the root of the mean of c_x^2 over the directions: 1/sqrt(2) in `fhp1`.
 
     Examples
     --------
@@ -33,7 +34,7 @@ def sound_speed(gas: str | Gas) -> float:
 def galilean_factor(gas: str | Gas, filling: Any, wind: float = 0.0) -> Any:
     """The factor g by which u.grad u is multiplied in the momentum equation.
 
-    It is (1 - 2d) / (2 (1 - d)), and 7/6 of it in `fhp-rest`.
+    It is (b/12) (1 - 2d) / (1 - d).
 
     Parameters
     ----------
@@ -67,7 +68,7 @@ def isotropic(gas: str | Gas) -> Gas:
     named = gas_named(gas)
     if named.is_square:
         why = "its stress depends on the direction of the flow"
-        raise Fault(f"hpp has no viscosity and no Galilean factor: {why}")
+        raise Fault(f"{named} has no viscosity and no Galilean factor: {why}")
     return named
 
 
@@ -138,10 +139,7 @@ class Correlated(UserWarning):
 
 # the fillings from .. to .. at which they do so, in shear waves of 128 and 256 rows
 CORRELATED = {
-    ("fhp1", "seeded"): (0.0, 0.19),
-    ("fhp1", "left"): (0.0, 0.2),
-    ("fhp-rest", "seeded"): (0.08, 0.65),
-    ("fhp-rest", "left"): (0.05, 0.65),
+    (name, side): of for name, gas in GASES.items() for side, of in gas.correlated.items()
 }
 
 
@@ -266,7 +264,7 @@ def bulk_viscosity(gas: str | Gas, filling: Any) -> Any:
     0.0
     """
     d = checked(filling)
-    return 0.0 * d if isotropic(gas).name == "fhp1" else 1 / (98 * d * (1 - d) ** 4) - 1 / 28
+    return GASES[isotropic(gas).name].bulk_viscosity(d)
 
 
 def slip(gas: str | Gas, filling: Any, chirality: str = "seeded", along: str = "rows") -> Any:

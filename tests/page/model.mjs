@@ -230,12 +230,16 @@ near("Mach of the fastest block", numbers.fastestMach, 0.57, 0.005);
 check("its warning", numbers.warnings.some((text) => text.startsWith("Mach 0.57")));
 near("Strouhal of the mean speed", strouhal(160, 2 * 2383, numbers.g, 0.299), 0.247, 0.001);
 near("Strouhal of the incoming speed", strouhal(160, 2 * 2383, numbers.g, 0.374), 0.198, 0.001);
-const theory = readFileSync(`${root}python/fhpgas/theory.py`, "utf8");
-for (const [gas, { fluid }] of Object.entries(GASES)) {
-  for (const [side, [low, high]] of Object.entries(fluid?.correlated ?? {})) {
-    const line = theory.split("\n").find((text) => text.includes(`("${gas}", "${side}"): (`));
-    check(`the fillings at which ${gas} ${side} warns`, String(line?.match(/: \((.*)\),/)?.[1].split(", ").map(Number)) === `${low},${high}`, line);
-  }
+const FILLINGS = [0.1, 0.3, 0.7], code = `import json; from fhpgas.gas_table import GASES
+print(json.dumps({name: [number, gas.momenta, gas.units, gas.correlated, [gas.viscosity(d) for d in ${JSON.stringify(FILLINGS)} if gas.viscosity]]
+    for number, (name, gas) in enumerate(GASES.items())}))`;
+const table = JSON.parse(spawnSync("python3", ["-c", code], { env: { ...process.env, PYTHONPATH: `${root}python` } }).stdout);
+check("the gases are the package's", String(Object.keys(GASES).sort()) === String(Object.keys(table).sort()), Object.keys(table));
+for (const [gas, { number, momenta, units, fluid }] of Object.entries(GASES)) {
+  const [viscosities, ...others] = table[gas].reverse(), own = [fluid?.correlated ?? {}, units, momenta, number];
+  check(`${gas} is the package's`, JSON.stringify(own) === JSON.stringify(others), others);
+  check(`${gas} is a fluid or none, as in the package`, viscosities.length === (fluid ? FILLINGS.length : 0));
+  viscosities.forEach((nu, i) => near(`ν of ${gas}, as the package has it`, viscosity(fluid, FILLINGS[i], "seeded"), nu, 1e-12));
 }
 const thin = (gas, particles) => numbersOf({ ...street, gas, directions: 6, particles, u: 0.1, fastest: 0.1 }, 100).warnings.length;
 check("a thin fhp1 warns, a dense one does not", thin("fhp1", 600) === 1 && thin("fhp1", 1200) === 0);
