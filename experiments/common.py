@@ -1,6 +1,5 @@
 """What the experiments share: the way to the package, a command line, lines of output, and axes for
 a figure."""
-import argparse
 import contextlib
 import importlib.util
 import pathlib
@@ -26,14 +25,12 @@ class Options(fault.Parser):
     def __init__(self, text, *gases, figure, seeds=None):
         super().__init__(description=text, allow_abbrev=False)
         self.is_small = "--small" in sys.argv[1:]
-        self.add_argument(
-            "--small", action="store_true", help="other defaults: a run of some seconds"
-        )
-        self.add_argument(
-            "--picture", type=writable, metavar="FILE", help=f"draw {figure}: .png, .pdf, .svg"
-        )
+        text = "other defaults: a run of some seconds"
+        self.add_argument("--small", action="store_true", help=text)
+        file = fault.to_write(".png", ".pdf", ".svg")
+        self.word("--picture", f"draw {figure}: .png, .pdf, .svg", file, metavar="FILE")
         if gases:
-            self.add_argument("--gas", choices=gases, default=gases[0], help=f"default {gases[0]}")
+            self.word("--gas", default=gases[0], choices=gases)
         if seeds:
             self.option("--seeds", whole(2, 1000), *seeds, "how many")
 
@@ -41,10 +38,11 @@ class Options(fault.Parser):
         """An option with a default, and another for `--small`. It takes one or more values if they
         are lists."""
         value = small if self.is_small else default
-        shown = value
-        if isinstance(value, list):
-            shown, more = " ".join(map(str, value)), dict(nargs="+", **more)
-        self.add_argument(name, type=kind, default=value, help=f"{text}; default {shown}", **more)
+        more |= {"nargs": "+"} if isinstance(value, list) else {}
+        self.word(name, text, kind, value, **more)
+
+    def word(self, name, *words, **more):
+        self.add_argument(name, **fault.word(*words, **more))
 
     def filling(self, least, most, usual):
         self.option("--filling", number(least, most), *[usual] * 2, "the filling d", metavar="D")
@@ -56,14 +54,6 @@ class Options(fault.Parser):
     def chirality(self):
         sides = "seeded", "left", "right"
         self.option("--chirality", str, *sides[:1] * 2, "seeded, left or right", choices=sides)
-
-
-def writable(path, kinds=(".png", ".pdf", ".svg")):
-    if pathlib.Path(path).suffix not in kinds:
-        raise argparse.ArgumentTypeError(f"{path} is written as {', '.join(kinds)}")
-    if not pathlib.Path(path).absolute().parent.is_dir():
-        raise argparse.ArgumentTypeError(f"{path}: there is no such folder")
-    return path
 
 
 def experiment(main):

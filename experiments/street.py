@@ -11,7 +11,7 @@ Roshko, NACA Report 1191, 1954) and sheds vortices from about Re = 47 on."""
 import common
 import fhpgas
 import numpy as np
-from fhpgas import theory
+from fhpgas import fault, theory
 
 GAS, FILLING, FIRST, BLOCK = "fhp-rest", 0.18, 47, (8, 9)
 
@@ -141,8 +141,8 @@ def main():
     text = "generations from one turning of particles to the next"
     reader.option("--part", common.whole(10, 10_000), 200, 50, text)
     reader.option("--seed", common.whole(0, 2**31), 1, 1, "of the gas")
-    scene = dict(metavar="FILE", help="keep the last lattice as a scene: .toml")
-    reader.add_argument("--scene", type=lambda path: common.writable(path, (".toml",)), **scene)
+    text = "keep the last lattice as a scene: .toml"
+    reader.word("--scene", text, fault.to_write(".toml"), metavar="FILE")
     asked = reader.parse_args()
     street = Street(asked)
     columns, rows = street.size

@@ -23,7 +23,7 @@ from typing import Any
 import fhpgas
 
 from . import drawing
-from .fault import Fault, Parser, Usage, add_words, number, one_line_faults, whole, word
+from .fault import Fault, Parser, Usage, add_words, number, one_line_faults, to_write, whole, word
 from .files import is_npz, of_file, read_bytes
 from .gas_table import GASES
 from .limits import DRIVES, FFMPEG, FIELDS, LAST_OF_SCENE, MOST_GENERATIONS, MOST_SEED
@@ -81,19 +81,6 @@ def steps(last: int, step: int) -> int:
     if last % step:
         raise Usage(f"{last} generations are no multiple of {step}, those of a step")
     return last // step
-
-
-def to_write(*suffixes: str) -> Callable[[str], str]:
-    """A type of argparse: files that can be written and have one of these suffixes."""
-
-    def file(word: str) -> str:
-        if pathlib.Path(word).suffix not in suffixes:
-            raise argparse.ArgumentTypeError(f"{word} is written as {', '.join(suffixes)}")
-        if not os.access(pathlib.Path(word).absolute().parent, os.W_OK):
-            raise argparse.ArgumentTypeError(f"the folder of {word} is missing or read-only")
-        return word
-
-    return file
 
 
 def draw(asked: argparse.Namespace) -> None:

@@ -6,6 +6,7 @@ import io
 import math
 import operator
 import os
+import pathlib
 import reprlib
 import signal
 import sys
@@ -120,11 +121,25 @@ def within(kind: Callable[[str], float], least: float, most: float) -> Callable[
 whole, number = functools.partial(within, int), functools.partial(within, float)
 
 
+def to_write(*suffixes: str) -> Callable[[str], str]:
+    """A type of argparse: files that can be written and have one of these suffixes."""
+
+    def file(word: str) -> str:
+        if pathlib.Path(word).suffix not in suffixes:
+            raise argparse.ArgumentTypeError(f"{word} is written as {', '.join(suffixes)}")
+        if not os.access(pathlib.Path(word).absolute().parent, os.W_OK):
+            raise argparse.ArgumentTypeError(f"the folder of {word} is missing or read-only")
+        return word
+
+    return file
+
+
 def word(
     about: str = "", kind: Callable[[str], Any] = str, default: Any = None, **more: Any
 ) -> dict[str, Any]:
     """The options of a word of argparse, whose help ends with its default."""
-    shown = f"default {' '.join(map(str, default)) if isinstance(default, tuple) else default}"
+    values = default if isinstance(default, (list, tuple)) else [default]
+    shown = f"default {' '.join(map(str, values))}"
     parts = [about] * bool(about) + [shown] * (default is not None)
     return {"help": "; ".join(parts), "type": kind, "default": default} | more
 
