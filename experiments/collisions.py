@@ -8,12 +8,7 @@ the collisions are compared with the published formulas (Frisch 1987)."""
 import common
 import fhpgas
 import numpy as np
-from fhpgas import theory
-
-VISCOSITIES = {
-    "fhp1": lambda d: 1 / (12 * d * (1 - d) ** 3) - 1 / 8,
-    "fhp-rest": lambda d: 1 / (28 * d * (1 - d) ** 3 * (1 - 4 * d / 7)) - 1 / 8,
-}
+from fhpgas import gas_table, theory
 
 
 def collided(gas, side):
@@ -76,14 +71,13 @@ def print_sums(gas):
     """Prints viscosity and Galilean factor beside the published formulas."""
     for d in np.arange(1, 6) / 10:
         print(f"d {d}: viscosity, summed {theory.viscosity(gas, d):.4f}", end=" ")
-        print(f"formula {VISCOSITIES[gas.name](d):.4f},", end=" ")
+        print(f"formula {gas_table.GASES[gas.name].viscosity(d):.4f},", end=" ")
         print(f"g, summed {summed_factor(gas, d):.4f}", end=" ")
         print(f"formula {theory.galilean_factor(gas, d):.4f}")
 
 
 def main():
-    figure = "the states that collide, before and after"
-    asked = common.Options(__doc__, "fhp1", "fhp-rest", "hpp", figure=figure).parse_args()
+    asked = common.Options("the states that collide, before and after", common.GASES).parse_args()
     gas = fhpgas.gas_named(asked.gas)
     left, right = (collided(gas, side) for side in ("left", "right"))
     states = np.arange(1 << gas.directions)
@@ -95,7 +89,7 @@ def main():
     particles, balanced = in_a_channel(gas)
     print("past a disc: particles", *particles, end=", ")
     print(f"momentum balanced in {balanced} of 100 generations")
-    if gas.name in VISCOSITIES:
+    if gas.name in common.FLUIDS:
         print_sums(gas)
     if asked.picture:
         draw(asked.picture, gas, changed, left, right)

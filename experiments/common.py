@@ -15,22 +15,24 @@ import fhpgas
 from fhpgas import fault, theory
 
 number, whole = fault.number, fault.whole  # types of options
+GASES = sorted(fhpgas.GASES, key=lambda name: fhpgas.GASES[name].is_square)
+FLUIDS = [name for name in GASES if not fhpgas.GASES[name].is_square]
 warnings.simplefilter("ignore", theory.Correlated)  # what is measured is printed beside
 
 
 class Options(fault.Parser):
-    """A command line whose faults are one line. `--small` chooses other defaults, with which the
-    tests run the experiment."""
+    """The command line of a script, whose faults are one line. `--small` chooses other defaults,
+    with which the tests run the experiment. If it takes gases, the usual one is fhp1."""
 
-    def __init__(self, text, *gases, figure, seeds=None):
-        super().__init__(description=text, allow_abbrev=False)
+    def __init__(self, figure, gases=(), usual="fhp1", seeds=None):
+        super().__init__(description=sys.modules["__main__"].__doc__, allow_abbrev=False)
         self.is_small = "--small" in sys.argv[1:]
         text = "other defaults: a run of some seconds"
         self.add_argument("--small", action="store_true", help=text)
         file = fault.to_write(".png", ".pdf", ".svg")
         self.word("--picture", f"draw {figure}: .png, .pdf, .svg", file, metavar="FILE")
         if gases:
-            self.word("--gas", default=gases[0], choices=gases)
+            self.word("--gas", default=usual, choices=gases)
         if seeds:
             self.option("--seeds", whole(2, 1000), *seeds, "how many")
 

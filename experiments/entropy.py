@@ -52,7 +52,7 @@ def draw(path, asked, times, means, errors, most):
 
 def main():
     figure = "the entropy on the way there, back, and back with one particle not turned"
-    reader = common.Options(__doc__, "fhp1", "fhp-rest", "hpp", figure=figure, seeds=(8, 4))
+    reader = common.Options(figure, common.GASES, seeds=(8, 4))
     reader.option("--size", common.whole(40, 2048), 192, 192, "columns and rows")
     reader.option("--generations", common.whole(PARTS, 10_000), 200, 200, "each way")
     asked = reader.parse_args()

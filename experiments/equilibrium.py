@@ -12,11 +12,7 @@ from fhpgas import boltzmann
 from scipy.special import xlogy
 
 GENERATIONS = 0, 1, 2, 4, 8, 16, 32, 64
-START = {
-    "fhp1": (0.6, 0, 0.3, 0, 0.3, 0),
-    "fhp-rest": (0.6, 0, 0.3, 0, 0.3, 0, 0.2),
-    "hpp": (0.6, 0.1, 0.2, 0.1),
-}
+START = (0.6, 0, 0.3, 0, 0.3, 0, 0.2), (0.6, 0.1, 0.2, 0.1)  # on the square lattice the second
 
 
 def drawn(gas, chances, size, seed, chirality="seeded"):
@@ -28,10 +24,10 @@ def drawn(gas, chances, size, seed, chirality="seeded"):
     return fhpgas.Lattice(states, gas=gas, chirality=chirality, seed=seed)
 
 
-def filled(asked, seed):
+def filled(asked, start, seed):
     """The chances of the directions at GENERATIONS, in the rows that the walls have not reached."""
     size, found, edge = fhpgas.Size(asked.size, asked.size), [], GENERATIONS[-1]
-    lattice = drawn(asked.gas, START[asked.gas], size, seed)
+    lattice = drawn(asked.gas, start, size, seed)
     for generation in GENERATIONS:
         lattice = lattice.run(generation - lattice.generation)
         inner = lattice.states[edge:-edge]
@@ -58,11 +54,12 @@ def draw(path, gas, means, errors, theory, names):
 
 
 def main():
-    reader = common.Options(__doc__, *START, figure="the directions and H over time", seeds=(8, 8))
+    reader = common.Options("the directions and H over time", common.GASES, seeds=(8, 8))
     reader.option("--size", common.whole(160, 4096), 1024, 192, "columns and rows")
     asked = reader.parse_args()
-    gas, start = fhpgas.gas_named(asked.gas), np.array(START[asked.gas])
-    runs = common.runs(lambda seed: filled(asked, seed), asked)
+    gas = fhpgas.gas_named(asked.gas)
+    start = np.array(START[gas.is_square][: gas.directions])
+    runs = common.runs(lambda seed: filled(asked, start, seed), asked)
     means, errors = fhpgas.mean_and_error(runs)
     flow = boltzmann.Flow(gas, np.zeros((2, 1)), has_walls=False)
     chances = np.resize(start, (2, gas.directions)).T[..., None]

@@ -3,9 +3,8 @@
 
 In a wind u eastwards the gas moves north and south as v = 0.1 sin(k x). In a fluid the wave would
 move with u. Here it moves with g u. A line is fitted to its phase in the rows a wave's length from
-the walls. Theory: the same fit to the noise-free Boltzmann equation of a gas without walls.
-Published, for a slow wind and a long wave: g = (1 - 2d) / (2 (1 - d)) in fhp1 and 7/6 of it in
-fhp-rest (Frisch 1987)."""
+the walls. Theory: the same fit to the noise-free Boltzmann equation of a gas without walls. For a
+slow wind and a long wave g = (b/12) (1 - 2d) / (1 - d), with b directions (Frisch 1987)."""
 import common
 import fhpgas
 import numpy as np
@@ -60,7 +59,7 @@ def draw(path, asked, waves):
 
 def main():
     figure = "the way of the waves, and g over the filling"
-    reader = common.Options(__doc__, "fhp1", "fhp-rest", figure=figure, seeds=(8, 4))
+    reader = common.Options(figure, common.FLUIDS, seeds=(8, 4))
     reader.fillings([0.2, 0.5])
     speed, length = "the speed of the wind", f"the length of the wave, a multiple of {BLOCK}"
     reader.option("--wind", common.number(0.02, 0.3), 0.2, 0.2, speed, metavar="U")

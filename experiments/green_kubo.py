@@ -72,7 +72,7 @@ def draw(path, asked, runs, kept, pairs, matrix):
 
 def main():
     figure = "the correlation of the stress, and the spectrum of a wave of the density"
-    reader = common.Options(__doc__, "fhp1", "fhp-rest", figure=figure, seeds=(8, 4))
+    reader = common.Options(figure, common.FLUIDS, seeds=(8, 4))
     reader.filling(0.05, 0.6, 0.3)
     reader.option("--generations", common.whole(500, 1_000_000), 1000, 600, "in all")
     reader.option("--lags", common.whole(20, 100), 30, 20, "generations in the sum")

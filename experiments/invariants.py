@@ -52,7 +52,7 @@ def draw(path, momenta, streams, step):
 
 
 def main():
-    reader = common.Options(__doc__, figure="the momenta over time, and the streams")
+    reader = common.Options("the momenta over time, and the streams")
     reader.option("--size", common.whole(16, 256), 128, 48, "columns and rows; even", metavar="N")
     reader.option("--generations", common.whole(4, 100_000), 1000, 100, "in all")
     asked = reader.parse_args()

@@ -75,7 +75,7 @@ def draw(path, asked, waves, found):
 
 
 def main():
-    reader = common.Options(__doc__, "fhp1", "fhp-rest", figure="all modes' rates", seeds=(8, 4))
+    reader = common.Options("all modes' rates", common.FLUIDS, seeds=(8, 4))
     reader.chirality()
     reader.filling(0.05, 0.9, 0.3)
     rows = [4, 8, 16, 32, 64]

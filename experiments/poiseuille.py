@@ -93,7 +93,7 @@ def draw(path, asked, channel, profiles, slips):
 
 def main():
     figure = "the profile with its parabola, what is left, and the slip"
-    reader = common.Options(__doc__, "fhp1", "fhp-rest", figure=figure, seeds=(8, 4))
+    reader = common.Options(figure, common.FLUIDS, seeds=(8, 4))
     reader.chirality()
     reader.option("--along", str, *DRIVES[:1] * 2, "what the force turns", choices=DRIVES)
     reader.filling(0.1, 0.6, 0.3)

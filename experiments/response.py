@@ -78,8 +78,7 @@ def draw(path, asked, found):
 
 
 def main():
-    figure = "the viscosity up to each generation"
-    reader = common.Options(__doc__, "fhp1", "fhp-rest", figure=figure, seeds=(16, 4))
+    reader = common.Options("the viscosity up to each generation", common.FLUIDS, seeds=(16, 4))
     reader.chirality()
     reader.fillings([0.3])
     text = "generations up to which it is summed, one or more"

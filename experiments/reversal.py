@@ -49,7 +49,7 @@ def draw(path, shown, growth):
 
 def main():
     figure = "the density of the four states, and the growth of a difference"
-    reader = common.Options(__doc__, "fhp1", "fhp-rest", "hpp", figure=figure)
+    reader = common.Options(figure, common.GASES)
     reader.option("--size", common.whole(40, 2048), 256, 64, "columns and rows")
     reader.option("--generations", common.whole(1, 10_000), 200, 60, "each way")
     asked = reader.parse_args()
@@ -60,7 +60,7 @@ def main():
     for name, lattice in (("all particles turned", late), ("and one of them not", turned(late))):
         shown.append(lattice.reverse().run(asked.generations).reverse())
         print(f"{name}: {differing(start, shown[-1])} cells differ from the start")
-    other, sides = turned(start), 2 if asked.gas == "hpp" else 3
+    other, sides = turned(start), 2 if start.gas.is_square else 3
     print("generations  cells that differ    most")
     growth = []
     for time in TIMES:

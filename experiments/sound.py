@@ -64,13 +64,12 @@ def draw(path, mean, error, k, name):
 
 
 def main():
-    figure = "the swinging amplitude with its fit"
-    reader = common.Options(__doc__, "fhp1", "fhp-rest", "hpp", figure=figure, seeds=(40, 4))
+    reader = common.Options("the swinging amplitude with its fit", common.GASES, seeds=(40, 4))
     reader.filling(0.05, 0.9, 0.3)
     reader.option("--height", common.whole(16, 512), 128, 32, "rows")
     reader.option("--width", common.whole(256, 65536), 2048, 2048, "columns")
     asked = reader.parse_args()
-    for is_diagonal in (False, True) if asked.gas == "hpp" else (False,):
+    for is_diagonal in (False, True) if fhpgas.gas_named(asked.gas).is_square else (False,):
         k, shape = wave(asked, is_diagonal)
         runs = common.runs(lambda seed: measured(asked, shape, seed), asked)
         fits, theory = [fit(values, k) for values in runs], fit(predicted(asked, shape), k)

@@ -131,7 +131,7 @@ def draw(path, street, times):
 
 def main():
     figure = "the vorticity at the end, the flow across in the wake, and the profile that meets"
-    reader = common.Options(__doc__, figure=f"{figure} the disc")
+    reader = common.Options(f"{figure} the disc")
     reader.option("--radius", common.whole(8, 400), 80, 16, "of the disc, in cells")
     reader.option("--height", common.number(2, 50), 5.5, 5.5, "of the channel, in diameters")
     reader.option("--length", common.number(6, 100), 20, 20, "of the channel, in diameters")

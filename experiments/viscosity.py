@@ -69,7 +69,7 @@ def draw(path, waves, title):
 
 def main():
     figure = "the decays on a logarithmic axis with their fits"
-    reader = common.Options(__doc__, "fhp1", "fhp-rest", figure=figure, seeds=(16, 4))
+    reader = common.Options(figure, common.FLUIDS, seeds=(16, 4))
     reader.chirality()
     reader.fillings([0.2])
     rows, speed = "rows, one or more", "u, the speed in the middle"
