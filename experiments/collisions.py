@@ -18,10 +18,8 @@ def collided(gas, side):
     states, x = np.zeros((3, 3 * number), np.uint8), 1 + 3 * np.arange(number)
     states[1, x] = np.arange(number)
     after = fhpgas.Lattice(states, gas=gas, chirality=side).run(1).states
-    return sum(
-        after[1 + down, (x + right) % (3 * number)] & 1 << i
-        for i, (right, down) in enumerate(gas.steps[1])
-    )
+    steps = enumerate(gas.steps[1])
+    return sum(after[1 + down, (x + right) % (3 * number)] & 1 << i for i, (right, down) in steps)
 
 
 def summed_factor(gas, d, u=0.001):
@@ -59,9 +57,8 @@ def compare(gas, states, left, right):
     """Prints how many tables and states are as they should be."""
     tables = (("left", left), ("right", right))
     rules = sum(np.array_equal(gas.collisions(s)[: len(states)], found) for s, found in tables)
-    is_kept = [
-        (of[left] == of[states]) & (of[right] == of[states]) for of in (gas.number, gas.px, gas.py)
-    ]
+    sums = gas.number, gas.px, gas.py
+    is_kept = [(of[left] == of[states]) & (of[right] == of[states]) for of in sums]
     print(f"tables that are those of the rules: {rules} of 2")
     kept = np.all(is_kept, 0).sum()
     print(f"states that conserve particles and momentum: {kept} of {len(states)}")

@@ -45,11 +45,8 @@ def draw(path, asked, waves):
             left.plot(TIMES, np.polyval(np.polyfit(TIMES, found, 1), TIMES), f"C{n}", lw=1)
             right.errorbar(filling, *fhpgas.mean_and_error(factors), fmt=f"C{n}o", ms=3)
         left.plot(TIMES, asked.wind * TIMES, "k:", lw=1, label="a fluid")
-        left.set(
-            xlabel="generations",
-            ylabel="way of the wave, cells' widths",
-            title=f"{asked.gas}, wind {asked.wind}, wave {asked.wave}",
-        )
+        left.set(xlabel="generations", ylabel="way of the wave, cells' widths")
+        left.set_title(f"{asked.gas}, wind {asked.wind}, wave {asked.wave}")
         slow, fast = (theory.galilean_factor(asked.gas, d, wind) for wind in (0, asked.wind))
         right.plot(d, slow, "0.6", lw=1, label="published, slow wind")
         right.plot(d, fast, "k", lw=1, label="Fermi and Dirac, this wind")
@@ -68,10 +65,8 @@ def main():
     reader.option("--height", common.whole(256, 4096), 768, 512, "rows, more than two waves")
     asked, waves = reader.parse_args(), []
     if asked.wave % BLOCK or asked.width % asked.wave or asked.height <= 2 * asked.wave:
-        raise fhpgas.Fault(
-            f"the wave, {asked.wave}, is a multiple of {BLOCK} and a part of the width, and less"
-            " than half of the height"
-        )
+        why = f"a multiple of {BLOCK} and a part of the width, and less than half of the height"
+        raise fhpgas.Fault(f"the wave, {asked.wave}, is {why}")
     asked.across = ACROSS * np.sin(2 * np.pi * np.arange(asked.wave) / asked.wave)
     for filling in asked.filling:
         runs = common.runs(lambda seed: measured(asked, filling, seed), asked)

@@ -57,10 +57,8 @@ def main():
     reader.option("--generations", common.whole(4, 100_000), 1000, 100, "in all")
     asked = reader.parse_args()
     if asked.size % 2:
-        raise fhpgas.Fault(
-            f"the size is {asked.size}: with an odd width the slanted lines close upon lines of the"
-            " other sign"
-        )
+        why = "with an odd width the slanted lines close upon lines of the other sign"
+        raise fhpgas.Fault(f"the size is {asked.size}: {why}")
     step = asked.generations // 4
     momenta, _ = (past_a_disc(gas, asked.size, step) for gas in ("fhp1", "fhp-rest"))
     streams = {gas: stream(gas, asked.size, step) for gas in ("hpp", "fhp1")}

@@ -41,10 +41,8 @@ class Wave:
     def logarithms(self, momenta, name):
         sizes = (self.sine * momenta).sum((1, 2))
         if sizes.min() <= 0:
-            raise fhpgas.Fault(
-                f"{name}: at filling {self.filling} the wave is lost in noise; a wider channel or"
-                " fewer rows may show it"
-            )
+            why = f"at filling {self.filling} the wave is lost in noise"
+            raise fhpgas.Fault(f"{name}: {why}; a wider channel or fewer rows may show it")
         return np.log(sizes / sizes[0])
 
     def viscosity(self, logarithms):
