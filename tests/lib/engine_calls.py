@@ -6,10 +6,12 @@ import re
 
 import needs
 import numpy as np
+from fhpgas import gas_table
 
 HEADER = (needs.ROOT / "include/fhpgas.h").read_text()
 NUMBERS = {"uint32_t": ctypes.c_uint32, "uint64_t": ctypes.c_uint64, "size_t": ctypes.c_size_t}
-DIRECTIONS = 6, 4, 7, 1  # of the gases by their numbers, and of what is none
+NONE = len(gas_table.GASES)  # the first number that no gas has
+DIRECTIONS = *(len(gas.momenta) for gas in gas_table.GASES.values()), 1  # and of what is no gas
 PLANES, SIDES = range(1, 9), range(1, 65537)
 NAMES = "pack", "unpack", "advance", "sums"
 BLOCKS = 1, 2, 5, 64, 100, 200, 5000, 2**32 - 1
@@ -80,8 +82,8 @@ class Calls:
         return words
 
     def gas(self):
-        gas = self.number("GAS", range(3), 3, 2**32 - 1)
-        return gas, DIRECTIONS[min(gas, 3)]
+        gas = self.number("GAS", range(NONE), NONE, 2**32 - 1)
+        return gas, DIRECTIONS[min(gas, NONE)]
 
     def pack(self):
         planes, sides = self.number("GAS", PLANES, 0, 9, 2**32 - 1), self.size()
@@ -113,7 +115,7 @@ class Calls:
         first = firsts[0 if is_late else self.rng.integers(3)]
         seed, solid = int(self.rng.integers(2**64, dtype=np.uint64)), self.solid()
         states = self.planes(directions)
-        room = self.library.call("work_words", min(gas, 2), self.width)
+        room = self.library.call("work_words", min(gas, NONE - 1), self.width)
         work = self.array(np.uint64, room)
         return gas, chirality, seed, first, left + is_late, *sides, row, solid, states, work
 

@@ -14,7 +14,7 @@ os.environ["PYTHONPATH"] = str(needs.ROOT / "python")
 import fhpgas  # noqa: E402 - finds the program by the lines above
 import numpy as np  # noqa: E402
 
-GASES, ROOT3 = ("fhp1", "hpp", "fhp-rest"), math.sqrt(3)
+GASES, ROOT3 = tuple(fhpgas.GASES), math.sqrt(3)
 AREA = 'gas = "fhp1"\nseed = 7\nwidth = 66\nheight = 9\nrate = 300\nsolid = [[20, 2, 3, 4]]\n'
 TABLE = """\
   col   row    fluid particles         px         py

@@ -32,7 +32,7 @@ from fhpgas.planes import packed, unpacked
 
 if engine.library() is None:
     needs.leave_out("python/fhpgas has no library for this processor: make")
-GASES = {"fhp1": 6, "hpp": 4, "fhp-rest": 7}  # with their directions
+GASES = [*fhpgas.GASES.values()]
 CHIRALITIES = "seeded", "left", "right"
 LATTICES, CUTS, REFUSALS = 2000, 3000, 3000
 WIDE = (65536, 1), (1, 65536), (4097, 5), (5, 4097), (16384, 3), (1000, 64)
@@ -44,8 +44,9 @@ def drawn(rng, size, gas, chirality=None):
     """A lattice of random states and solid cells, with a seed and a generation that a scene may have."""
     shape = size[::-1]
     walls = rng.random(shape) < rng.choice([0, 0.02, 0.3, 1], p=[0.4, 0.3, 0.28, 0.02])
-    bits = rng.random((*shape, GASES[gas])) < rng.choice([0.02, 0.2, 0.5])
-    states = np.where(walls, 0, bits @ (1 << np.arange(GASES[gas]))).astype(np.uint8)
+    directions = fhpgas.gas_named(gas).directions
+    bits = rng.random((*shape, directions)) < rng.choice([0.02, 0.2, 0.5])
+    states = np.where(walls, 0, bits @ (1 << np.arange(directions))).astype(np.uint8)
     seed = (0, 2**63 - 1, int(rng.integers(2**63, dtype=np.uint64)))[rng.integers(3)]
     first = (0, 2**32 - 5, 10**12, int(rng.integers(10**12)))[rng.integers(4)]
     chirality = chirality or str(rng.choice(CHIRALITIES))
@@ -58,7 +59,7 @@ def cases():
     for number in range(LATTICES):
         usual = tuple(rng.integers(1, 301, 2).tolist())
         size = usual if number % 50 else WIDE[number // 50 % len(WIDE)]
-        yield drawn(rng, size, [*GASES][number % 3]), int(rng.integers(51))
+        yield drawn(rng, size, GASES[number % len(GASES)]), int(rng.integers(51))
 
 
 def side_by_side(function, values):
@@ -85,6 +86,8 @@ class Header(unittest.TestCase):
 
     def test_the_binding_has_its_calls_and_numbers(self):
         self.assertIn(f"#define FHPGAS_INTERFACE {engine.INTERFACE}\n", HEADER)
+        gases = HEADER.partition("/* The gases:")[2].partition("}")[0]
+        self.assertEqual(gases.count(" = "), len(GASES))
         for name, number in (engine.GASES | engine.CHIRALITIES).items():
             with self.subTest(name=name):
                 self.assertIn(f"FHPGAS_{name.upper().replace('-', '_')} = {number}", HEADER)
@@ -186,8 +189,8 @@ class Engine(unittest.TestCase):
         rng, cells, others = np.random.default_rng(3), 0, 0
         for number in range(CUTS):
             size = tuple(rng.integers((1, 4), (230, 60)).tolist())
-            whole, n = drawn(rng, size, [*GASES][number % 3], "seeded"), int(rng.integers(1, 9))
-            top = 2 * int(rng.integers(size[1] // 2))
+            whole = drawn(rng, size, GASES[number % len(GASES)], "seeded")
+            n, top = int(rng.integers(1, 9)), 2 * int(rng.integers(size[1] // 2))
             bottom = int(rng.integers(top, size[1])) + 1
             part, uncut = slice(top, bottom), whole.run(n, 1).states
             cut = whole.replace(states=whole.states[part], solid=whole.solid[part])

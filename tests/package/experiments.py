@@ -20,6 +20,7 @@ needs.built_program()
 sys.path.insert(0, str(needs.ROOT / "experiments"))
 
 import street as street_script
+from common import FLUIDS, GASES
 from fhpgas import Fault, Lattice, boltzmann, theory
 
 SIGNS = {"seeded": 0, "left": -1, "right": 1}
@@ -31,6 +32,7 @@ FORMULAS = {  # published viscosities
     ("fhp1", "left"): lambda d: 1 / (16 * d * (1 - d) ** 3) - 1 / 8,
     ("fhp-rest", "seeded"): lambda d: 1 / (28 * d * (1 - d) ** 3 * (1 - 4 * d / 7)) - 1 / 8,
 }
+COLLIDING = {"fhp1": "5 of 64", "fhp-rest": "22 of 128", "hpp": "2 of 16"}  # states, by hand
 REFUSED = """
 viscosity.py --gas hpp | viscosity.py --filling 2 | viscosity.py --seeds 1 | viscosity.py --colour
 viscosity.py --chirality up | galilean.py --gas hpp | galilean.py --width 200 | galilean.py --wave 100
@@ -168,17 +170,18 @@ def is_viscous(gas, chirality):
     sure(others == [(gas, chirality)], f"{measured} +- {error} could be of {others}")
 
 
-def collides(gas, number, states):
+def collides(gas):
     output = printed(f"collisions.py --gas {gas}")
+    number, states = re.match(rf"{gas}: (\d+ of (\d+)) states collide\n", output).groups()
+    sure(number == COLLIDING.get(gas, number), number)
     for line in (
-        f"{gas}: {number} of {states} states collide",
         "tables that are those of the rules: 2 of 2",
         f"states that conserve particles and momentum: {states} of {states}",
         "momentum balanced in 100 of 100 generations",
     ):
         sure(line in output, line)
     sums = re.findall(r"summed (\S+) formula ([\d.]+)", output)
-    sure(len(sums) == (0 if gas == "hpp" else 10), sums)
+    sure(len(sums) == 10 * (gas in FLUIDS), sums)
     sure(all(abs(float(one) - float(other)) < 2e-4 for one, other in sums), sums)
 
 
@@ -272,23 +275,22 @@ def takes_arrays():
         sure(is_so, name, gas, found, wanted)
 
 
-TWO, SOUND = ("fhp1", "fhp-rest"), ("speed of sound", "damping D")
+SOUND = "speed of sound", "damping D"
 NOISE = "stress after 1", "viscosity", *SOUND
 CASES = [
-    *((collides, *numbers) for numbers in (("fhp1", 5, 64), ("fhp-rest", 22, 128), ("hpp", 2, 16))),
-    *((returns, gas) for gas in (*TWO, "hpp")),
+    *((check, gas) for check in (collides, returns) for gas in GASES),
     *((check,) for check in (keeps, street, finds_periods, takes_arrays)),
     (responds, "--filling 0.1 --triples 0.5 --until 60"),
     (responds, "--filling 0.4 --gas fhp-rest --chirality left"),
-    *((check, gas) for check in (swings, forgets) for gas in TWO),
+    *((check, gas) for check in (swings, forgets) for gas in FLUIDS),
     *((check, *key) for check in (is_viscous, decays_as_published) for key in FORMULAS),
-    *((are_as_in_theory, f"green_kubo.py --small --gas {gas}", NOISE, 0.2) for gas in TWO),
+    *((are_as_in_theory, f"green_kubo.py --small --gas {gas}", NOISE, 0.2) for gas in FLUIDS),
     *(
         (are_as_in_theory, f"equilibrium.py --small --gas {gas}", ["direction"], 0.05)
-        for gas in TWO
+        for gas in FLUIDS
     ),
-    *((are_as_in_theory, f"sound.py --small --gas {gas}", SOUND) for gas in TWO),
-    *((are_as_in_theory, f"galilean.py --small --gas {gas}", [gas]) for gas in TWO),
+    *((are_as_in_theory, f"sound.py --small --gas {gas}", SOUND) for gas in FLUIDS),
+    *((are_as_in_theory, f"galilean.py --small --gas {gas}", [gas]) for gas in FLUIDS),
     (are_as_in_theory, "sound.py --small --gas hpp", [f"{name} diagonal" for name in SOUND]),
     (are_as_in_theory, "porous.py --small", ["force"]),
     (slips, "fhp1", "seeded", 0.3, [("fhp1", 0.3, "left"), ("fhp-rest", 0.3)]),

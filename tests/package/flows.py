@@ -61,8 +61,9 @@ class Flows(Package):
                 self.assertEqual(found.tolist(), gas.collisions(side)[: len(found)].tolist())
 
     def test_a_reversed_run_comes_back_bit_for_bit(self):
-        two_sides = itertools.product(("fhp1", "fhp-rest"), ("left", "right"))
-        for gas, side in (*two_sides, ("hpp", "seeded")):
+        for gas, side in itertools.product(GASES, ("left", "right", "seeded")):
+            if side == "seeded" and not fhpgas.gas_named(gas).is_square:
+                continue  # random bits only run forwards
             with self.subTest(gas=gas, side=side):
                 start = wind((64, 47), gas, side)
                 late = start.run(100)
@@ -74,14 +75,14 @@ class Flows(Package):
         for gas in GASES:
             with self.subTest(gas=gas):
                 before, parts = wind((64, 47), gas), np.arange(64) < 20
-                kept = fhpgas.staggered(before) if gas != "hpp" else ()
+                kept = () if before.gas.is_square else fhpgas.staggered(before)
                 for after in itertools.islice(before.every(1, 20), 1, None):
                     forces = fhpgas.forces(after)
                     self.same(sum(forces.values()), before.momentum - after.momentum, 9)
                     masks = (np.broadcast_to(parts ^ flip, (47, 64)) for flip in (False, True))
                     halves = [fhpgas.forces(after, mask)["solid"] for mask in masks]
                     self.same(sum(halves), forces["solid"], 9)
-                    self.assertEqual(fhpgas.staggered(after) if gas != "hpp" else (), kept)
+                    self.assertEqual(kept and fhpgas.staggered(after), kept)
                     before = after
         gas, numbers = fhpgas.GASES["fhp1"], np.arange(12).reshape(6, 2)
         plain = sum(number * np.outer(c, c) for number, c in zip(numbers[:, 1], gas.velocities))

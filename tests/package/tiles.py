@@ -18,9 +18,10 @@ import warnings
 
 sys.path.append(f"{sys.path[0]}/../lib")
 import needs
+from fhpgas.gas_table import GASES
 
 needs.built_program()
-GASES = "fhp1", "fhp-rest", "hpp"
+NAMES = sorted(GASES, key=lambda name: GASES[name].units)
 COUNTS = {True: 0, False: 0}
 LARGE = 4 << 30  # bytes that the largest comparison may take
 
@@ -44,10 +45,10 @@ def random_tilings(client, folder):
     """Tilings of small lattices with obstacles: split and run, drawn by the workers, and kept."""
     for number in range(30):
         rng = random.Random(number)
-        gas, chirality = rng.choice(GASES), rng.choice(("left", "right", "seeded"))
+        gas, chirality = rng.choice(NAMES), rng.choice(("left", "right", "seeded"))
         size = fhpgas.Size(rng.choice([5, 17, 64, 70]), rng.choice([20, 34, 64]))
         tile = rng.choice([16, 35, 100]), rng.choice([10, 16, 21])
-        if chirality == "seeded" and gas != "hpp":
+        if chirality == "seeded" and not fhpgas.gas_named(gas).is_square:
             tile = 100, tile[1]
         solid = numpy.random.default_rng(number).random(size.shape) < 0.05
         known = dict(size=size, gas=gas, chirality=chirality, seed=number)

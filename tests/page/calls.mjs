@@ -3,6 +3,7 @@
 //   node tests/page/calls.mjs [ROUNDS]
 import { existsSync, readFileSync } from "node:fs";
 import { kernelText } from "../../page/built.mjs";
+import { GASES } from "../../page/src/gases.js";
 import { moduleOf } from "../../page/src/kernel.js";
 import { check, end, tried } from "../lib/checks.mjs";
 import { lots } from "../lib/random_numbers.mjs";
@@ -56,7 +57,8 @@ const word = () => random.below(2 ** 32), long = () => BigInt(word()) << 32n | B
 const length = (n) => (random.chance() < 0.03 ? Math.max(0, n + random.of([-1, 1, 7])) : n);
 const words = (n, of = long) => BigUint64Array.from({ length: length(n) }, of);
 const solid = (n) => words(n, random.of([() => 0n, long, () => long() & long() & long() & long()]));
-const gas = () => (random.chance() < 0.04 ? random.of([3, 2 ** 32 - 1]) : random.below(3));
+const none = Object.keys(GASES).length; // the first number that no gas has
+const gas = () => (random.chance() < 0.04 ? random.of([none, 2 ** 32 - 1]) : random.below(none));
 function size() {
   const width = random.of([1 + random.below(300), random.of(EDGES)]), height = random.of([1, 2, 3, 1 + random.below(40)]);
   return random.chance() < 0.08 ? random.of([[0, 1], [65537, 1], [1, 0], [1, 65537]]) : [width, height];

@@ -18,7 +18,7 @@ if (existsSync(`${root}page/engine.js`)) {
   new Function(readFileSync(`${root}page/engine.js`, "utf8"))();
   kernels.proved = await maker(globalThis.FHPGAS_ENGINE);
 } else console.log("the engine is left out, because page/engine.js is missing: run make");
-const MAPS = 200, AREAS = 18;
+const MAPS = 200, AREAS = 18, ALL = Object.values(GASES);
 
 // The line that the program prints first, and its rows.
 function run(scene, generations) {
@@ -60,8 +60,8 @@ function drawn(random, gas, width, height) {
 
 const WIDTHS = [1, 2, 3, 7, 31, 32, 33, 47, 63, 64, 65, 95, 96, 97, 128, 129, 161, 255, 257], HEIGHTS = [1, 2, 3, 5, 8, 16, 33, 64];
 function map(number) {
-  const random = lots(number), gas = Object.values(GASES)[number % 3];
-  const chirality = ["seeded", "left", "right"][Math.floor(number / 3) % 3];
+  const random = lots(number), gas = ALL[number % ALL.length];
+  const chirality = ["seeded", "left", "right"][Math.floor(number / ALL.length) % 3];
   const width = random.of(WIDTHS), height = random.of(HEIGHTS), generations = 100 + random.below(400);
   const first = random.of([0, 1, 2 ** 32 - 100, 10 ** 12]);
   const seed = random.of([0n, 1n, 2n ** 32n, 2n ** 63n - 1n, BigInt(random.below(2 ** 32)) << 20n]);
@@ -83,7 +83,7 @@ for (let number = 0; number < MAPS; number++) tried(`map ${number}`, () => map(n
 
 // the filling of areas
 function area(number) {
-  const random = lots(1000 + number), gas = Object.values(GASES)[number % 3];
+  const random = lots(1000 + number), gas = ALL[number % ALL.length];
   const width = random.of(WIDTHS), height = random.of(HEIGHTS), rate = random.of([0, 1, 200, 500, 999, 1000]);
   const seed = random.of([0n, 7n, 2n ** 63n - 1n]);
   const cells = new Uint8Array(width * height);

@@ -29,7 +29,7 @@ LEAST = {
     "pack": 4,
     "unpack": 3,
 }  # statuses that a call must be seen to return
-GASES, SIDES = (0, 1, 2, 3, 2**32 - 1), (0, *EDGES, 65536, 65537, 2**32 - 1)
+GASES, SIDES = (*range(engine_calls.NONE + 1), 2**32 - 1), (0, *EDGES, 65536, 65537, 2**32 - 1)
 SIZES = {  # what the calls that return sizes are given
     "interface": [()],
     "directions": [(gas,) for gas in GASES],

@@ -14,10 +14,12 @@ import tempfile
 
 sys.path.append(f"{sys.path[0]}/../lib")
 import needs
+from fhpgas import gas_table
 
 PROGRAM = needs.built_program()
 MAPS = 20
-GASES = {"fhp1": 6, "fhp-rest": 7, "hpp": 4}  # and their directions
+ROWS = sorted(gas_table.GASES.items(), key=lambda row: row[1].units)  # triangular lattices first
+GASES = {name: len(row.momenta) for name, row in ROWS}  # and their directions
 CHIRALITIES = ["left", "right", "seeded"]
 SIZES = (
     "1024x1024 63x700 2701x150 64x513 777x1000 1x300 5000x90 130x64 1000x999 65x2 6500x64".split()
@@ -52,7 +54,8 @@ def drawn(rng, width, height, directions):
 def fault(number, room):
     """What differs on the map of that number, or None."""
     rng = random.Random(number)
-    (gas, directions), chirality = list(itertools.product(GASES.items(), CHIRALITIES))[number % 9]
+    kinds = [*itertools.product(GASES.items(), CHIRALITIES)]
+    (gas, directions), chirality = kinds[number % len(kinds)]
     width, height = map(int, SIZES[number % len(SIZES)].split("x"))
     plans = PLANS.split("|")
     stages, capacity, threads = plans[number % len(plans)].split()

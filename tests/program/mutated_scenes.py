@@ -23,7 +23,9 @@ NUMBERS = (
     '0|1|-1|4|63|64|1000|1001|4096|4097|9223372036854775807|9223372036854775808|1.0|true|"1"|'
     "1979-05-27|[]|[1, 2]|{ a = 1 }|0x10|1_000|inf"
 ).split("|")
-TEXTS = ('"fhp1"|"hpp"|"fhp-rest"|"fhp2"|"left"|"right"|"seeded"|""|1|\'fhp1\'|["fhp1"]').split("|")
+GASES = [f'"{gas}"' for gas in second_reader.STATES]
+CHIRALITIES = ['"left"', '"right"', '"seeded"']
+TEXTS = [*GASES, '"fhp2"', *CHIRALITIES, '""', "1", "'fhp1'", '["fhp1"]']
 EDGES = (
     "9223372036854775806|-9223372036854775807|-9223372036854775808|-9223372036854775809|"
     "18446744073709551615|18446744073709551616|4294967296|-4294967295|0x7fffffffffffffff|"
@@ -67,7 +69,7 @@ def value(rng, key):
     if rng.random() < 0.05:
         return rng.choice(NUMBERS + TEXTS)
     if key in ("gas", "chirality"):
-        texts = TEXTS[:3] if key == "gas" else TEXTS[4:7]
+        texts = GASES if key == "gas" else CHIRALITIES
         return rng.choice(texts if rng.random() < 0.9 else TEXTS)
     if key == "cells":
         return cells(rng)

@@ -4,8 +4,8 @@
 # counts.
 . "$(dirname "$0")/../lib/try.sh"
 
-for gas in fhp1 hpp fhp-rest; do
-    printf 'gas = "%s"\nwidth = 1000\nheight = 300\nrate = 300\nsolid = [[100, 50, 30, 100], [990, 0, 10, 3]]\n' $gas > "$room/$gas.toml"
+for gas in $(PYTHONPATH=python python3 -c 'from fhpgas.gas_table import GASES; print(*GASES)'); do
+    printf 'gas = "%s"\nwidth = 1000\nheight = 300\nrate = 300\nsolid = [[100, 50, 30, 100], [990, 0, 10, 3]]\n' "$gas" > "$room/$gas.toml"
 done
 for level in $(printf '%s\n' x86-64-v2 "$(tools/level)" | sort -u); do
     make CPU="$level" > "$room/log" 2>&1 || { tail -n 20 "$room/log"; exit 1; }
