@@ -88,6 +88,9 @@ fn assert_stands(rt: &impl Abort, replay: &Replay<Fhp1>, lengths: &Lengths) {
             "taken from belt {belt}"
         );
     }
+    let past = replay.belts();
+    assert!(rt; replay.put(past).is_none(), "put on belt {past}");
+    assert!(rt; replay.taken(past).is_none(), "taken from belt {past}");
 }
 
 // Turns of random members; one number in `workers + 2` is that of no member.
