@@ -338,8 +338,7 @@ def main():
         for name in sorted(known[key].words & limits)
     ]
     print(f"{own} lines for answer, and {of_kit} of the kit's crates")
-    print("".join(f"FAILED: {line}\n" for line in wrong), end="")
-    sys.exit(needs.told(len(known) - len(wrong), len(wrong)))
+    sys.exit(needs.tell_faults(len(known), wrong))
 
 
 main()

@@ -33,19 +33,11 @@ def comparisons():
     table = subprocess.check_output([PROGRAM, *COLUMNS.split()], input=scene, text=True)
     particles = [int(line.split()[3]) for line in table.splitlines()[1:]]
     most = max(particles)
-    wanted = [
-        f"generation 12: {sum(particles)} particles",
-        *(f"column {x}: {n}" for x, n in enumerate(particles)),
-        f"the fullest is column {particles.index(most)}, with {most}",
-    ]
-    yield "it prints the particles of the columns", (
-        EXAMPLE / "stdout"
-    ).read_text().splitlines() == wanted
+    first, *columns, last = (EXAMPLE / "stdout").read_text().splitlines()
+    yield "it prints the particles", first == f"generation 12: {sum(particles)} particles"
+    yield "of each column", columns == [f"column {x}: {n}" for x, n in enumerate(particles)]
+    fullest = f"the fullest is column {particles.index(most)}, with {most}"
+    yield "and of the fullest", last == fullest
 
 
-compared = list(comparisons())
-failed = [what for what, is_so in compared if not is_so]
-for what in failed:
-    print(f"FAILED: {what}")
-print(f"{len(compared) - len(failed)} passed, {len(failed)} failed")
-sys.exit(bool(failed))
+sys.exit(needs.tell_wrong((what, not is_so) for what, is_so in comparisons()))

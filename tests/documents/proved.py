@@ -60,8 +60,4 @@ def complaints(page):
 
 
 page = PAGE.read_text()
-wrong = list(complaints(page))
-for what in wrong:
-    print(f"FAILED: {what}")
-print(f"{len(CITED.findall(page)) - len(wrong)} passed, {len(wrong)} failed")
-sys.exit(bool(wrong))
+sys.exit(needs.tell_faults(len(CITED.findall(page)), [*complaints(page)]))

@@ -27,6 +27,7 @@ WANTED = dict(
     for line in (ROOT / "tests/lib/requirements.txt").read_text().splitlines()
     if "==" in line
 )
+CHECKS = {True: 0, False: 0}
 sys.path.append(str(ROOT / "python"))
 if signal.getsignal(signal.SIGINT) is signal.SIG_IGN:  # as in the background of a script
     signal.signal(signal.SIGINT, signal.default_int_handler)
@@ -50,13 +51,30 @@ def told(passed, failed, *left_out):
     return 1 if failed or not passed else LEFT_OUT if left_out else 0
 
 
+def check(what, is_so, more=""):
+    """Counts a check, and says if it failed."""
+    CHECKS[bool(is_so)] += 1
+    if not is_so:
+        print(f"FAILED: {what}" if more == "" else f"FAILED: {what}: {more}", flush=True)
+
+
+def tell_checks(*left_out):
+    """Prints the last line of a script that called `check`, and returns its status."""
+    return told(CHECKS[True], CHECKS[False], *left_out)
+
+
 def tell_wrong(tried):
     """Prints which cases are wrong of pairs of a case and why it is wrong, if it is (True: it says
     so itself), and the last line of a script. Returns its status."""
-    tried = [*tried]
-    wrong = [f"FAILED: {case}{'' if why is True else f': {why}'}\n" for case, why in tried if why]
-    print(*wrong, sep="", end="")
-    return told(len(tried) - len(wrong), len(wrong))
+    for case, why in tried:
+        check(case, not why, "" if why is True else why)
+    return tell_checks()
+
+
+def tell_faults(number, faults, *left_out):
+    """Prints the faults of so many cases, and the last line of a script. Returns its status."""
+    print("".join(f"FAILED: {fault}\n" for fault in faults), end="")
+    return told(number - len(faults), len(faults), *left_out)
 
 
 def why_wrong(case):

@@ -63,8 +63,7 @@ def main():
             wrong.append(f"{name}: {script}.py has no {test}")
         elif name.rpartition(".")[2] not in names(known[test], known):
             wrong.append(f"{name}: {test} of {script}.py does not call it")
-    print(*(f"FAILED: {each}" for each in wrong), sep="\n", end="\n" if wrong else "")
-    return needs.told(len(rows) - len(wrong), len(wrong))
+    return needs.tell_faults(len(rows), wrong)
 
 
 if __name__ == "__main__":

@@ -24,9 +24,8 @@ CHIRALITIES = ["left", "right", "seeded"]
 SIZES = (
     "1024x1024 63x700 2701x150 64x513 777x1000 1x300 5000x90 130x64 1000x999 65x2 6500x64".split()
 )
-PLANS = (
-    "1 1 1|4 2 4|3 1024 2|64 1 5|16 128 4|2 8 1|7 33 3|33 3 33"  # stages, places per belt, threads
-)
+# stages, places per belt, threads
+PLANS = "1 1 1|4 2 4|3 1024 2|64 1 5|16 128 4|2 8 1|7 33 3|33 3 33".split("|")
 GENERATIONS = range(150, 500)
 
 
@@ -34,52 +33,41 @@ def drawn(rng, width, height, directions):
     """The rows of a map: cells whose directions are filled with one probability, single solid cells, and some solid rectangles."""
     states = range(1 << directions)
     rate = rng.choice([0.02, 0.1, 0.3, 0.6])
-    weights = [
-        rate ** state.bit_count() * (1 - rate) ** (directions - state.bit_count())
-        for state in states
-    ]
+    chance = lambda number: rate**number * (1 - rate) ** (directions - number)
+    weights = [chance(state.bit_count()) for state in states]
     cells = [f"{state:02x}" if state else ".." for state in states] + ["##"]
     weights.append(rng.choice([0, 0.001, 0.02]))
     rows = [rng.choices(cells, weights, k=width) for _ in range(height)]
     for _ in range(rng.randrange(6)):
         left, top = rng.randrange(width), rng.randrange(height)
-        right, bottom = min(width, left + rng.randint(1, 200)), min(
-            height, top + rng.randint(1, 100)
-        )
+        right = min(width, left + rng.randint(1, 200))
+        bottom = min(height, top + rng.randint(1, 100))
         for row in rows[top:bottom]:
             row[left:right] = ["##"] * (right - left)
     return ["".join(row) for row in rows]
 
 
 def fault(number, room):
-    """What differs on the map of that number, or None."""
+    """The map of that number, and the programs that differ on it."""
     rng = random.Random(number)
     kinds = [*itertools.product(GASES.items(), CHIRALITIES)]
     (gas, directions), chirality = kinds[number % len(kinds)]
     width, height = map(int, SIZES[number % len(SIZES)].split("x"))
-    plans = PLANS.split("|")
-    stages, capacity, threads = plans[number % len(plans)].split()
+    stages, capacity, threads = PLANS[number % len(PLANS)].split()
     plan = ["--stages", stages, "--capacity", capacity, "--threads", threads]
-    first, seed, generations = (
-        rng.choice([0, 1, 2**32 - 100, 10**12]),
-        rng.randrange(2**63),
-        rng.choice(GENERATIONS),
-    )
+    first, seed = rng.choice([0, 1, 2**32 - 100, 10**12]), rng.randrange(2**63)
+    generations = rng.choice(GENERATIONS)
     rows = drawn(rng, width, height, directions)
     keys = f'version = 2\ngas = "{gas}"\nchirality = "{chirality}"\nseed = {seed}\ngeneration = {first}\n'
     scene = f"{keys}cells = {rows}\n".encode()
     ours = needs.printed([PROGRAM, "run", "--generations", generations, *plan], scene, timeout=300)
     word = seed if chirality == "seeded" else chirality
-    programs = [[room / "bytes", generations, word, gas]] + [
-        [room / "bands", generations, 3, word]
-    ] * (gas == "fhp1")
+    programs = [[room / "bytes", generations, word, gas]]
+    programs += [[room / "bands", generations, 3, word]] * (gas == "fhp1")
     start = "\n".join([f"generation {first} particles 0", *rows, ""]).encode()
     wrong = [it[0].name for it in programs if needs.printed(it, start, timeout=300) != ours]
-    return (
-        f"map {number}: {gas}, {chirality}, {width} x {height}, {generations} generations, {stages} stages, {threads} threads: {wrong}"
-        if wrong
-        else None
-    )
+    sizes = f"{width} x {height}, {generations} generations, {stages} stages, {threads} threads"
+    return f"map {number}: {gas}, {chirality}, {sizes}", wrong
 
 
 def main():
@@ -90,11 +78,7 @@ def main():
         for name in "bytes", "bands":
             source, flags = f"tests/program/oracles/{name}.c", "-O3 -march=x86-64-v2 -pthread"
             needs.compiled(source, room / name, *flags.split())
-        faults = list(filter(None, pool.map(lambda number: fault(number, room), range(MAPS))))
-    for found in faults:
-        print(f"FAILED: {found}")
-    print(f"{MAPS - len(faults)} passed, {len(faults)} failed")
-    return 1 if faults else 0
+        return needs.tell_wrong(pool.map(lambda number: fault(number, room), range(MAPS)))
 
 
 if __name__ == "__main__":

@@ -74,13 +74,10 @@ def is_alike(number, room):
 def main():
     needs.command("bgolly")
     with tempfile.TemporaryDirectory() as folder:
-        differ = [
-            number for number in range(LATTICES) if not is_alike(number, pathlib.Path(folder))
-        ]
-    for number in differ:
-        print(f"FAILED: lattice {number} differs from Golly's")
-    print(f"{LATTICES - len(differ)} passed, {len(differ)} failed")
-    return 1 if differ else 0
+        for number in range(LATTICES):
+            is_so = is_alike(number, pathlib.Path(folder))
+            needs.check(f"lattice {number} is Golly's", is_so)
+    return needs.tell_checks()
 
 
 sys.exit(main())

@@ -127,8 +127,4 @@ def complaints():
                 yield f"{name} has less of the runtime than this test says"
 
 
-wrong = list(complaints())
-for what in wrong:
-    print(f"FAILED: {what}")
-print(f"{len(HELD) + 1 - len(wrong)} passed, {len(wrong)} failed")
-sys.exit(bool(wrong))
+sys.exit(needs.tell_faults(len(HELD) + 1, [*complaints()]))

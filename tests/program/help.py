@@ -75,8 +75,5 @@ told = "\n\n".join(
     subprocess.run([PROGRAM, *command.split(), "--help"], capture_output=True, text=True).stdout
     for command in COMMANDS
 )
-wrong = list(complaints(told, (needs.ROOT / "docs/FORMATS.md").read_text()))
-for what in wrong:
-    print(f"FAILED: {what}")
-print(f"{len(PAIRS) + len(OPTION.findall(told)) - len(wrong)} passed, {len(wrong)} failed")
-sys.exit(bool(wrong))
+wrong = [*complaints(told, (needs.ROOT / "docs/FORMATS.md").read_text())]
+sys.exit(needs.tell_faults(len(PAIRS) + len(OPTION.findall(told)), wrong))

@@ -69,18 +69,15 @@ def main():
         needs.compiled("tests/program/oracles/bytes.c", room / "bytes", "-O3", "-march=x86-64-v2")
         if sys.argv[1:] == ["--make"]:
             return make(room)
-        passed, failed = 0, 0
         for recorded, generations, name in map(str.split, RECORD.read_text().splitlines()):
             scene = (FOLDER / name).read_text()
             words = [needs.built_program(), "run", "--generations", generations]
             ours = hashlib.sha256(needs.printed(words, scene.encode())).hexdigest()
             by_c = sha256_by_c(room, scene, generations)
             for program, found in ("fhpgas", ours), ("bytes.c", by_c):
-                passed, failed = passed + (found == recorded), failed + (found != recorded)
-                if found != recorded:
-                    print(f"FAILED: {name}: {program} prints other cells")
-    print(f"{passed} passed, {failed} failed")
-    return 1 if failed or passed != 2 * len(SIZES) else 0
+                needs.check(f"{name} as {program} runs it", found == recorded)
+    needs.check("all scenes have a record", sum(needs.CHECKS.values()) == 2 * len(SIZES))
+    return needs.tell_checks()
 
 
 if __name__ == "__main__":

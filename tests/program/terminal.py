@@ -142,7 +142,4 @@ cases = {
 }
 cases["a scene that is typed"] = awaits_scene()
 cases |= hints() if can_choose() else {}
-for name in (name for name, is_right in cases.items() if not is_right):
-    print(f"FAILED: {name}")
-print(f"{sum(cases.values())} passed, {len(cases) - sum(cases.values())} failed")
-sys.exit(not all(cases.values()))
+sys.exit(needs.tell_wrong((name, not is_right) for name, is_right in cases.items()))

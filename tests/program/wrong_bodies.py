@@ -118,12 +118,10 @@ def main():
         for edit in sorted(said.keys() & found.keys())
         if found[edit][:compared] != said[edit][:compared]
     ]
-    for what in wrong:
-        print(f"FAILED: {what}")
     clauses = sum(bool(re.fullmatch(r"\w+", it[2])) for it in said.values())
     print(f"{clauses} of {len(edits)} edits are refused at a clause that their function promises")
     left_out = [f"{edit}, which the table lacks" for edit in sorted(edits - said.keys())]
-    return needs.told(len(edits) - len(wrong) - len(left_out), len(wrong), *left_out)
+    return needs.tell_faults(len(edits) - len(left_out), wrong, *left_out)
 
 
 sys.exit(main())
