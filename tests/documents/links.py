@@ -10,7 +10,10 @@ import re
 import sys
 import urllib.parse
 
-ROOT = pathlib.Path(__file__).resolve().parents[2]
+sys.path.append(f"{sys.path[0]}/../lib")
+import needs
+
+ROOT = needs.ROOT
 FENCE = re.compile(r"^(```|~~~).*?^\1", re.M | re.S)
 CODE = re.compile(r"`[^`\n]*`")
 LINK = re.compile(
@@ -119,33 +122,25 @@ def help_and_formats():
 
 
 def faults_of_sources():
-    """How many faults the documents have of what the sources say."""
+    """The faults that the documents have of what the sources say."""
     where = "docs/ARCHITECTURE.md"
     one = f"stands in crates.txt or in the table of {where}, and not in both"
-    faults = [f"{name} {one}" for name in sorted(set.symmetric_difference(*crates()))]
-    faults += [f"{where}, 'Where to put a change': {wrong}" for wrong in faults_of_the_map()]
-    print("".join(f"FAILED: {fault}\n" for fault in faults), end="")
-    failed = len(faults)
+    yield from (f"{name} {one}" for name in sorted(set.symmetric_difference(*crates())))
+    yield from (f"{where}, 'Where to put a change': {wrong}" for wrong in faults_of_the_map())
     for told, written in help_and_formats():
-        failed += told != written or not told
-        if told != written:
-            print(f"FAILED: the program's help has {told}, docs/FORMATS.md {written}")
-    return failed
+        if told != written or not told:
+            yield f"the program's help has {told}, docs/FORMATS.md {written}"
 
 
-def main():
-    passed, failed = 0, faults_of_sources() if (ROOT / "crates.txt").exists() else 0
+def tried():
+    """The faults of sources, and each link with what is wrong with it, or None."""
+    if (ROOT / "crates.txt").exists():
+        yield from ((fault, True) for fault in faults_of_sources())
     for document in documents():
         for link, line in links(document.read_text()):
-            if ELSEWHERE.match(link):
-                continue
-            wrong = fault(document, link)
-            passed, failed = passed + (not wrong), failed + bool(wrong)
-            if wrong:
-                print(f"FAILED: {document.relative_to(ROOT)}:{line}: {link} {wrong}")
-    print(f"{passed} passed, {failed} failed")
-    return 1 if failed or not passed else 0
+            if not ELSEWHERE.match(link):
+                yield f"{document.relative_to(ROOT)}:{line}: {link}", fault(document, link)
 
 
 if __name__ == "__main__":
-    sys.exit(main())
+    sys.exit(needs.tell_wrong(tried()))

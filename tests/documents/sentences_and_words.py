@@ -32,31 +32,25 @@ def number_of_words(text):
     return sum(bool(re.search(r"\w", word)) for word in text.split())
 
 
-def complaints(name, text):
-    """What is wrong with a document. Prints its line of counts."""
+def fault(name, text):
+    """What is wrong with a document, or nothing. Prints its line of counts."""
     found = [it for it in sentences(text) if len(it.split()) > MOST_WORDS]
     number = number_of_words(text)
     print(f"{number:6} words, {len(found):3} long sentences in {name}")
     if sys.argv[1:] == ["--list"]:
         print("\n".join(f"    {it}" for it in found))
-    yield from (f"a long sentence: {it}" for it in found if name not in LONG)
-    if number > MOST_OF.get(name, number):
-        yield f"more than {MOST_OF[name]} words"
+    wrong = [f"a long sentence: {it}" for it in found if name not in LONG]
+    most = MOST_OF.get(name, number)
+    wrong += [f"more than {most} words"] * (number > most)
+    return "\n    ".join(wrong)
 
 
-def main():
+def tried():
     texts = {str(path.relative_to(links.ROOT)): path.read_text() for path in links.documents()}
-    failed = 0
-    for name, text in texts.items():
-        wrong = list(complaints(name, text))
-        failed += bool(wrong)
-        print("".join(f"FAILED: {name}: {it}\n" for it in wrong), end="")
+    yield from ((name, fault(name, text)) for name, text in texts.items())
     number = sum(number_of_words(it) for name, it in texts.items() if name not in OWN)
-    if number > MOST:
-        print(f"FAILED: {number} words in all, more than {MOST}")
     print(f"{number} words in all")
-    print(f"{len(texts) - failed + (number <= MOST)} passed, {failed + (number > MOST)} failed")
-    return 1 if failed or number > MOST else 0
+    yield f"all have at most {MOST} words", number > MOST
 
 
-sys.exit(main())
+sys.exit(links.needs.tell_wrong(tried()))

@@ -19,26 +19,20 @@ import warnings
 sys.path.append(f"{sys.path[0]}/../lib")
 import needs
 from fhpgas.gas_table import GASES
+from needs import check
 
 needs.built_program()
 NAMES = sorted(GASES, key=lambda name: GASES[name].units)
-COUNTS = {True: 0, False: 0}
 LARGE = 4 << 30  # bytes that the largest comparison may take
-
-
-def told(name, is_right):
-    COUNTS[bool(is_right)] += 1
-    if not is_right:
-        print(f"FAILED: {name}")
 
 
 def refused(what, call):
     try:
         call()
     except fhpgas.Fault as fault:
-        told(f"{what}: {fault}", "\n" not in str(fault))
+        check(f"{what}: {fault}", "\n" not in str(fault))
     else:
-        told(f"{what} is refused", False)
+        check(f"{what} is refused", False)
 
 
 def random_tilings(client, folder):
@@ -54,25 +48,25 @@ def random_tilings(client, folder):
         known = dict(size=size, gas=gas, chirality=chirality, seed=number)
         whole = fhpgas.draw_gas(0.3, 0.2, 0.1, solid=solid, **known)
         tiles = fhpgas.tiles.split(client, whole, tile)
-        told(f"tiling {number} has tiles of at most {tile}", is_even(tiles, tile))
+        check(f"tiling {number} has tiles of at most {tile}", is_even(tiles, tile))
         sides = [min(chunks) for chunks in tiles.cells.chunks if len(chunks) > 1]
         margin = max(1, min(sides, default=20) // 2 * 2 - rng.randint(0, 1))
         generations = rng.randint(1, 12) if min(sides, default=2) > 1 else 0
         later = tiles.run(generations, min(margin, rng.randint(1, 12)), folder, rng.randint(1, 3))
-        told(f"tiling {number} is one run", later.gather() == whole.run(generations))
-        told(f"tiling {number} is itself alone", tiles == tiles != later or not generations)
+        check(f"tiling {number} is one run", later.gather() == whole.run(generations))
+        check(f"tiling {number} is itself alone", tiles == tiles != later or not generations)
         kept = fhpgas.tiles.load(client, folder)
-        told(f"tiling {number} is kept", kept.gather() == later.gather())
+        check(f"tiling {number} is kept", kept.gather() == later.gather())
         block = rng.randint(1, 20), rng.randint(1, 20)
-        told(f"tiling {number} has its blocks", tiles.blocks(*block) == whole.blocks(*block))
+        check(f"tiling {number} has its blocks", tiles.blocks(*block) == whole.blocks(*block))
         X, Y = fhpgas.positions(size, gas)
         draw = functools.partial(fhpgas.tiles.draw_gas, client, tile=tile, **known)
         wanted = fhpgas.draw_gas(0.3, wave(X, Y), solid=round_body(X, Y), **known)
         drawn = draw(0.3, wave, solid=round_body).gather()
-        told(f"tiling {number} is drawn as one", drawn == wanted)
+        check(f"tiling {number} is drawn as one", drawn == wanted)
         filling = (0.3 + 0 * Y, 0.1 + 0.001 * X, numpy.full(size.columns, 0.2))[number % 3]
         wanted = fhpgas.draw_gas(filling, solid=solid, **known)
-        told(f"tiling {number} takes arrays", draw(filling, solid=solid).gather() == wanted)
+        check(f"tiling {number} takes arrays", draw(filling, solid=solid).gather() == wanted)
 
 
 def is_even(tiles, tile):
@@ -106,11 +100,13 @@ def refusals(client, folder):
     size, tile = fhpgas.Size(64, 48), (32, 16)
     draw = functools.partial(fhpgas.tiles.draw_gas, client, size=size, tile=tile, chirality="left")
     tiles = draw(filling)
-    told("equal tiles have one hash", draw(0.2) == draw(0.2) and hash(draw(0.2)) == hash(draw(0.2)))
+    check(
+        "equal tiles have one hash", draw(0.2) == draw(0.2) and hash(draw(0.2)) == hash(draw(0.2))
+    )
     refused("distances as solid cells", lambda: draw(0.2, solid=lambda X, Y: X - 9))
     refused("a filling of another shape", lambda: draw(numpy.ones((3, 4))))
-    told("no run is kept", draw(0.2).run(0, kept=folder / "none").gather() == draw(0.2).gather())
-    told("and read", fhpgas.tiles.load(client, folder / "none").gather() == draw(0.2).gather())
+    check("no run is kept", draw(0.2).run(0, kept=folder / "none").gather() == draw(0.2).gather())
+    check("and read", fhpgas.tiles.load(client, folder / "none").gather() == draw(0.2).gather())
     refused("a margin larger than a tile", lambda: tiles.run(100, margin=17))
     refused("no interval", lambda: tiles.run(100, 2, folder, 0))
     refused("tiles of one row", lambda: draw(0.2, tile=(64, 1)))
@@ -122,17 +118,17 @@ def refusals(client, folder):
     refused("random bits unless told", lambda: usual(tile=tile))
     for seed in (0, *numpy.random.SeedSequence(3).spawn(2)):
         drawn = usual(tile=(64, 16), seed=seed).gather()
-        told("they are drawn", drawn == fhpgas.draw_gas(0.2, size=size, seed=seed))
+        check("they are drawn", drawn == fhpgas.draw_gas(0.2, size=size, seed=seed))
     vast = draw(filling, size=fhpgas.Size(140_000, 4), tile=(70_000, 4))
     refused("a tile that no lattice can be", lambda: vast.run(100, 4))
     (folder / "empty").mkdir()
     for name in "empty", "missing":
         refused(f"a folder that is {name}", lambda: fhpgas.tiles.load(client, folder / name))
-    told("nothing is drawn before", not (folder / "drawn").exists())
-    told("particles are counted", tiles.particles == tiles.gather().particles)
-    told("the tiles are drawn then", (folder / "drawn").exists())
+    check("nothing is drawn before", not (folder / "drawn").exists())
+    check("particles are counted", tiles.particles == tiles.gather().particles)
+    check("the tiles are drawn then", (folder / "drawn").exists())
     later = [each.gather() for each in tiles.every(3, 2)][2]
-    told("steps are those of one run", later == tiles.gather().run(6))
+    check("steps are those of one run", later == tiles.gather().run(6))
     wrong = draw(lambda X, Y: numpy.where(X.size > 1, 2.0, 0.2) + 0 * X)
     refused("what fails in a worker", wrong.wait)
 
@@ -151,13 +147,13 @@ def printed_examples(client, folder):
         known = {"size": fhpgas.Size(*size), "tile": tile, "chirality": "left"}
         fhpgas.tiles.draw_gas(client, 0.2, **known)._check_margin(margin)
         size, tile = fhpgas.Size(*(side // 50 for side in size)), (tile[0] // 50, tile[1] // 50)
-        told(f"the example of {path} says its chirality", 'chirality="left"' in text)
+        check(f"the example of {path} says its chirality", 'chirality="left"' in text)
         known |= {"size": size, "tile": tile}
         drawn = fhpgas.tiles.draw_gas(client, 0.2, east=0.1, **known)
         later = drawn.run(12, margin // 50).gather()
-        told(f"the example of {path} runs", later == drawn.gather().run(12))
+        check(f"the example of {path} runs", later == drawn.gather().run(12))
     part = fhpgas.Lattice(numpy.zeros((64, 1024), numpy.uint8))
-    told("Dask knows how long a lattice is", 131072 <= dask.sizeof.sizeof(part) < 132000)
+    check("Dask knows how long a lattice is", 131072 <= dask.sizeof.sizeof(part) < 132000)
 
 
 def parts_of(client):
@@ -192,8 +188,8 @@ def killed_worker(client, folder):
             time.sleep(0.001)
         worker = min(client.nthreads())
         os.kill(client.submit(os.getpid, workers=[worker], pure=False).result(), signal.SIGKILL)
-        told("a run goes on when a worker is killed", later.result().gather() == whole)
-    told("it costs at most an interval", 8 * 40 <= len(parts) <= 8 * (40 + 2))
+        check("a run goes on when a worker is killed", later.result().gather() == whole)
+    check("it costs at most an interval", 8 * 40 <= len(parts) <= 8 * (40 + 2))
 
 
 def added_workers(client, folder):
@@ -212,8 +208,8 @@ def added_workers(client, folder):
         (folder / "added").touch()
         run = later.result()
     whole = eight_tiles(client, 0.2).gather().run(400)
-    told("a run with added workers is one run", run.gather() == whole)
-    told("added workers compute", sum(worker not in first for worker in parts) >= 8 * 40 // 10)
+    check("a run with added workers is one run", run.gather() == whole)
+    check("added workers compute", sum(worker not in first for worker in parts) >= 8 * 40 // 10)
 
 
 def half_run():
@@ -224,14 +220,14 @@ def saved_half(client, folder):
     """Half of a run, saved twice, of which a later client makes the rest."""
     tiles = fhpgas.tiles.draw_gas(client, 0.2, 0.1, tile=(100, 64), **half_run())
     half = tiles.run(20, margin=6).save(folder).run(30, margin=8).save(folder)
-    told("saved tiles are those that were computed", half.gather() == tiles.gather().run(50))
-    told("old tiles are gone", len([path for path in folder.iterdir() if path.is_dir()]) == 1)
+    check("saved tiles are those that were computed", half.gather() == tiles.gather().run(50))
+    check("old tiles are gone", len([path for path in folder.iterdir() if path.is_dir()]) == 1)
 
 
 def rest_of_a_run(client, folder):
     whole = fhpgas.draw_gas(0.2, 0.1, **half_run()).run(100)
     later = fhpgas.tiles.load(client, folder).run(50, margin=8)
-    told("a run goes on from its files", later.gather() == whole)
+    check("a run goes on from its files", later.gather() == whole)
 
 
 def little_memory(client, folder):
@@ -241,7 +237,7 @@ def little_memory(client, folder):
     tiles = fhpgas.tiles.draw_gas(client, 0.2, **known).wait()
     before = tiles.particles
     is_kept = tiles.run(4).particles == before > 2**29
-    told("a lattice that no worker could have keeps its particles", is_kept)
+    check("a lattice that no worker could have keeps its particles", is_kept)
 
 
 def large_area(client, folder):
@@ -269,7 +265,7 @@ def large_area(client, folder):
     known = {"size": fhpgas.Size(side, side), "tile": (4096, 2048), "chirality": "left"}
     tiles = fhpgas.tiles.draw_gas(client, full_cells, solid=obstacle, **known).run(generations)
     wanted = fhpgas.coarse(area, generations, block, block)
-    told("8192 x 8192 cells have the program's table", tiles.blocks(block, block) == wanted)
+    check("8192 x 8192 cells have the program's table", tiles.blocks(block, block) == wanted)
 
 
 def with_workers(*parts, memory=2_000_000_000):
@@ -291,8 +287,7 @@ def main():
     if has_memory:
         with_workers([large_area])
         with_workers([little_memory], memory=450_000_000)
-    left_out = ["the largest lattices for want of memory"] * (not has_memory)
-    return needs.told(COUNTS[True], COUNTS[False], *left_out)
+    return needs.tell_checks(*["the largest lattices for want of memory"] * (not has_memory))
 
 
 if __name__ == "__main__":  # not in the workers, which import this file

@@ -14,6 +14,7 @@ import zipfile
 
 sys.path.append(f"{sys.path[0]}/../lib")
 import needs
+from needs import check
 
 PROGRAM = needs.built_program()
 needs.libraries("pip", "setuptools", "wheel")
@@ -55,11 +56,6 @@ print(sum(each.attempted for each in tried) > 90, sum(each.failed for each in tr
 """
 OLD = "import sys; sys.version_info = (3, 10, 12); sys.argv[0] = {!r}; import fhpgas"
 NOTICES = "LICENSE-MIT", "LICENSE-APACHE", "NOTICES.md"
-TRIED = []
-
-
-def check(what, is_so, more=""):
-    TRIED.append((what, None if is_so else f"\n{more}"))
 
 
 def pip(*words):
@@ -174,7 +170,7 @@ def main():
                 (wheel,) = (top / "built").glob("*.whl")
             declared(wheel, True)
             tried(Room(top / "built", wheel), True)
-    return needs.tell_wrong(TRIED)
+    return needs.tell_checks()
 
 
 sys.exit(main())

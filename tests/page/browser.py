@@ -15,6 +15,7 @@ import time
 
 sys.path.append(f"{sys.path[0]}/../lib")
 import needs
+from needs import check
 
 PROGRAM = needs.built_program()
 from tab import FILE, Late, Page
@@ -26,12 +27,6 @@ from selenium.webdriver.common.keys import Keys
 SOLID = [0x78, 0x82, 0x8C]
 KNOWN = 'gas = "fhp1"\nchirality = "left"\ncells = ["01........##", "..09......##", "......04..##", "..........##"]\n'
 QUICK = "#scene=flow past a disc&size=256 x 128&radius=14&gas=fhp1&pace=10"
-counts = {True: 0, False: 0}
-
-
-def check(what, is_so, more=""):
-    counts[bool(is_so)] += 1
-    print("" if is_so else f"FAILED: {what} {more}\n", end="", flush=True)
 
 
 def tried(part, *words):
@@ -551,7 +546,7 @@ def main():
             tried(part, pathlib.Path(folder))
     with tempfile.TemporaryDirectory() as folder, contextlib.suppress(OSError):
         left_out = firefox(pathlib.Path(folder))
-    return needs.told(counts[True], counts[False], *left_out)
+    return needs.tell_checks(*left_out)
 
 
 sys.exit(main())

@@ -23,12 +23,8 @@ import numpy as np
 EDGES = [1, 63, 64, 65, 127, 128, 129, 255, 256, 257, 4096]
 WIDTHS = [*range(1, 301), *EDGES * 27]
 ROUNDS = 1500
-LEAST = {
-    "advance": 7,
-    "sums": 5,
-    "pack": 4,
-    "unpack": 3,
-}  # statuses that a call must be seen to return
+# statuses that a call must be seen to return
+LEAST = {"advance": 7, "sums": 5, "pack": 4, "unpack": 3}
 GASES, SIDES = (*range(engine_calls.NONE + 1), 2**32 - 1), (0, *EDGES, 65536, 65537, 2**32 - 1)
 SIZES = {  # what the calls that return sizes are given
     "interface": [()],
@@ -99,14 +95,13 @@ def main():
     try:
         statuses = compare(paths, seed, rounds)
     except AssertionError as different:
-        print(f"FAILED: {different}")
-        return needs.told(0, 1)
+        return needs.tell_faults(1, [different])
     for (name, status), number in sorted(statuses.items()):
         print(f"{number:6} {name} returned {status}")
     seen = collections.Counter(name for name, _ in statuses)
     few = [name for name, least in LEAST.items() if seen[name] < least]
-    print("".join(f"FAILED: {name} returned few statuses\n" for name in few), end="")
-    return needs.told(statuses.total(), len(few))
+    few = [f"{name} returned few statuses" for name in few]
+    return needs.tell_faults(statuses.total(), few)
 
 
 sys.exit(main())

@@ -432,16 +432,16 @@ def is_like(came, wanted):
     return bool(wanted.fullmatch(came)) if isinstance(wanted, re.Pattern) else came == wanted
 
 
-def fault(case, room):
-    """What is wrong with the output of a case, or None."""
+def tried(case, room):
+    """A case, and what is wrong with its output, or None."""
     words, text, *wanted = case
+    name = f"{words[:12]} on {text[:200]!r}"
     try:
         came = answer(words, text, room)
     except subprocess.TimeoutExpired as late:
-        return f"{text[:200]!r}: {late}"
-    if all(map(is_like, came, wanted)):
-        return None
-    return f"{words[:12]} on {text[:200]!r}: {wanted!r:.300} was expected, and came {came!r:.300}"
+        return name, late
+    is_so = all(map(is_like, came, wanted))
+    return name, None if is_so else f"{wanted!r:.300} was expected, and came {came!r:.300}"
 
 
 def main():
@@ -454,11 +454,7 @@ def main():
         (room / "wide").write_text(WIDE)
         cases = [([PROGRAM, *words], *case) for words, *case in programs()]
         cases += [(["bash", "-c", line], "", *wanted) for line, *wanted in STREAMS]
-        faults = [found for found in pool.map(lambda case: fault(case, room), cases) if found]
-    for found in faults:
-        print(f"FAILED: {found}")
-    print(f"{len(cases) - len(faults)} passed, {len(faults)} failed")
-    return 1 if faults else 0
+        return needs.tell_wrong(pool.map(lambda case: tried(case, room), cases))
 
 
 sys.exit(main())

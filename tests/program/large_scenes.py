@@ -153,7 +153,6 @@ def answer(path):
 
 def main():
     size = int(float(sys.argv[1] if len(sys.argv) > 1 else 1) * (1 << 20))
-    passed = failed = 0
     print(f"{'text':40} {'bytes':>9} {'seconds':>8} {'peak MB':>8}  answer")
     with tempfile.NamedTemporaryFile() as file:
         for name, pieces, expected in texts(size):
@@ -165,16 +164,11 @@ def main():
             line, seconds, peak = answer(file.name)
             numbers = f"{file.tell():9} {seconds:8.2f} {peak / 1000:8.0f}"
             print(f"{name:40} {numbers}  {line}", flush=True)
-            passed, failed = passed + (line == expected), failed + (line != expected)
-            if line != expected:
-                print(f"FAILED: {name}: {expected} was expected")
+            needs.check(name, line == expected, f"{expected} was expected")
     if not has_memory():
-        left_out = "the largest area and the longest line for want of memory"
-        return needs.told(passed, failed, left_out)
-    is_alike = is_alike_through_longest_line()
-    if not is_alike:
-        print("FAILED: the longest line prints another lattice")
-    return needs.told(passed + is_alike, failed + (not is_alike))
+        return needs.tell_checks("the largest area and the longest line for want of memory")
+    needs.check("the longest line prints the same lattice", is_alike_through_longest_line())
+    return needs.tell_checks()
 
 
 sys.exit(main())

@@ -22,9 +22,8 @@ GIGABYTE = 1 << 30
 
 def answer(words, path):
     """The status of the program on the text in a file, with the SHA-256 of its output and its message."""
-    with open(path, "rb") as text, subprocess.Popen(
-        [PROGRAM, *map(str, words)], stdin=text, stdout=subprocess.PIPE, stderr=subprocess.PIPE
-    ) as child:
+    words, pipes = [PROGRAM, *map(str, words)], dict.fromkeys(("stdout", "stderr"), subprocess.PIPE)
+    with open(path, "rb") as text, subprocess.Popen(words, stdin=text, **pipes) as child:
         sums = hashlib.sha256()
         while block := child.stdout.read(1 << 20):
             sums.update(block)
@@ -126,12 +125,9 @@ def many_turns(room):
         f'version = 2\ngas = "fhp1"\nwidth = 1\nheight = {rows}\nrate = 1000\n'
     )
     words = ["replay", "--generations", "1", "--stages", "1", *(["0", "1"] * (turns // 2))]
-    ended = subprocess.run(
-        [PROGRAM, *words],
-        input=(room / "area").read_bytes(),
-        capture_output=True,
-        preexec_fn=lambda: resource.setrlimit(resource.RLIMIT_STACK, (1 << 26, 1 << 26)),
-    )
+    limited = lambda: resource.setrlimit(resource.RLIMIT_STACK, (1 << 26, 1 << 26))
+    known = {"input": (room / "area").read_bytes(), "capture_output": True, "preexec_fn": limited}
+    ended = subprocess.run([PROGRAM, *words], **known)
     belts = "".join(f"belt {belt} put {rows} taken {rows}\n" for belt in range(2))
     text = f"done\n{belts}generation 1 particles {6 * rows}\n" + "3f\n" * rows
     yield "200,000 turns", (ended.returncode, ended.stdout.decode()) == (0, text)
@@ -149,7 +145,7 @@ PARTS = {
 
 
 def main():
-    passed, failed, left_out = 0, 0, []
+    left_out = []
     with tempfile.TemporaryDirectory() as folder:
         room = pathlib.Path(folder)
         needs.compiled("tests/program/oracles/bytes.c", room / "bytes", "-O3", "-march=x86-64-v2")
@@ -158,10 +154,8 @@ def main():
                 left_out.append(f"{part.__name__} for want of memory")
                 continue
             for name, is_right in part(room):
-                passed, failed = passed + is_right, failed + (not is_right)
-                if not is_right:
-                    print(f"FAILED: {name}")
-    return needs.told(passed, failed, *left_out)
+                needs.check(name, is_right)
+    return needs.tell_checks(*left_out)
 
 
 sys.exit(main())

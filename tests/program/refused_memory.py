@@ -20,6 +20,7 @@ import tempfile
 
 sys.path.append(f"{sys.path[0]}/../lib")
 import needs
+from needs import check
 
 TOP = needs.ROOT
 PROGRAM, PROBES = needs.built_program(), needs.built_program("probes")
@@ -53,15 +54,6 @@ PLANS = [
     ("hpp", 1, 6000, 64, 1024, 5),
 ]
 REST = 100_000  # bytes for the scene's text, the words and what is printed
-passed = 0
-failed = 0
-
-
-def count(is_well, what):
-    global passed, failed
-    passed, failed = passed + is_well, failed + (not is_well)
-    if not is_well:
-        print(f"FAILED: {what}")
 
 
 class Ended:
@@ -70,10 +62,9 @@ class Ended:
     def __init__(self, library, words, scene, refuse):
         with tempfile.NamedTemporaryFile() as seen:
             environment = {**os.environ, **refuse, "REFUSE_SEEN": seen.name, "LD_PRELOAD": library}
+            known = {"capture_output": True, "env": environment, "timeout": SECONDS}
             with open(scene, "rb") as text:
-                ran = subprocess.run(
-                    words, stdin=text, capture_output=True, env=environment, timeout=SECONDS
-                )
+                ran = subprocess.run(words, stdin=text, **known)
             numbers = seen.read().split()
         self.status, self.out, self.err = ran.returncode, ran.stdout, ran.stderr
         names = "seen refused started joined held since_start asked largest most_held".split()
@@ -96,11 +87,9 @@ def sweep(pool, library, name, words, scene, line, most_asked_again=0):
     """Refuses every request in turn, only that one or also all later ones. After at most so many refusals the run may continue, to the
     usual end."""
     usual = Ended(library, words, scene, {})
-    count(usual.status == 0 and usual.is_tidy() and usual.seen > 0, f"{name}: {usual}")
-    count(
-        usual.since_start == (0 if usual.started else usual.seen),
-        f"{name}: {usual.since_start} requests between last start and first join",
-    )
+    check(f"{name}: {usual}", usual.status == 0 and usual.is_tidy() and usual.seen > 0)
+    told = f"{name}: {usual.since_start} requests between last start and first join"
+    check(told, usual.since_start == (0 if usual.started else usual.seen))
     ways = itertools.product(("REFUSE_AT", "REFUSE_FROM"), range(1, usual.seen + 1))
     tries = [{way: str(request)} for way, request in ways]
     asked_again = 0
@@ -109,15 +98,15 @@ def sweep(pool, library, name, words, scene, line, most_asked_again=0):
         goes_on = is_usual and "REFUSE_AT" in refuse
         asked_again += goes_on
         is_well = (ended.is_refused(line) or goes_on) and ended.refused > 0
-        count(is_well, f"{name} {refuse}: {ended}")
-    count(asked_again <= most_asked_again, f"{name}: {asked_again} runs went on after a refusal")
+        check(f"{name} {refuse}: {ended}", is_well)
+    check(f"{name}: {asked_again} runs went on after a refusal", asked_again <= most_asked_again)
     print(f"{name}: {usual.seen} requests, {usual.started} threads")
 
 
 def as_many(library, name, runs):
     """Runs of one line make the same number of requests for more and for fewer generations."""
     seen = {Ended(library, words, scene, {}).seen for words, scene in runs}
-    count(len(seen) == 1, f"{name}: requests {sorted(seen)}")
+    check(f"{name}: requests {sorted(seen)}", len(seen) == 1)
     print(f"{name}: {sorted(seen)} requests")
 
 
@@ -125,14 +114,10 @@ def holds_places(library, scene, row_bytes):
     """Belts with 512 places more ask for the memory of 512 rows more."""
     for stages in 1, 2, 5:
         words = [PROGRAM, "run", "--generations", "3", "--stages", str(stages), "--capacity"]
-        few, many = (
-            Ended(library, [*words, places], scene, {}).asked for places in ("512", "1024")
-        )
-        least = 512 * (stages + 1) * row_bytes
-        count(
-            least <= many - few < 2 * least,
-            f"{stages + 1} belts with 512 places more ask for {many - few} bytes more, and not for {least}",
-        )
+        few, many = (Ended(library, [*words, places], scene, {}) for places in ("512", "1024"))
+        least, more = 512 * (stages + 1) * row_bytes, many.asked - few.asked
+        told = f"{stages + 1} belts with 512 places more ask for {more} bytes more, not for {least}"
+        check(told, least <= more < 2 * least)
 
 
 def stated(gas, width, height, stages, capacity, threads):
@@ -158,26 +143,20 @@ def asks_for_no_more(library, room):
         words = f"run --generations {2 * stages} --stages {stages} --capacity {capacity} --threads {threads}"
         lattices, belts = stated(*plan)
         ended = Ended(library, [PROGRAM, *words.split()], scene, {})
-        count(ended.status == 0, f"{plan}: {ended}")
-        count(
-            ended.largest <= max(lattices // 2, belts) + REST,
-            f"{plan}: asks for {ended.largest} bytes at once, and {lattices} and {belts} are stated",
-        )
-        count(
-            ended.most_held <= lattices + belts + REST,
-            f"{plan}: holds {ended.most_held} bytes, and {lattices} and {belts} are stated",
-        )
+        check(f"{plan}: {ended}", ended.status == 0)
+        for does, most, said in (
+            ("asks at once for", max(lattices // 2, belts), ended.largest),
+            ("holds", lattices + belts, ended.most_held),
+        ):
+            told = f"{plan}: {does} {said} bytes, and {lattices} and {belts} are stated"
+            check(told, said <= most + REST)
 
 
 def run_within(limit, words, text):
     """Runs the program in an address space of a number of bytes."""
-    return subprocess.run(
-        [PROGRAM, *words],
-        input=text,
-        capture_output=True,
-        timeout=SECONDS,
-        preexec_fn=lambda: resource.setrlimit(resource.RLIMIT_AS, (limit, limit)),
-    )
+    limited = lambda: resource.setrlimit(resource.RLIMIT_AS, (limit, limit))
+    known = {"input": text, "capture_output": True, "timeout": SECONDS, "preexec_fn": limited}
+    return subprocess.run([PROGRAM, *words], **known)
 
 
 def limits():
@@ -185,17 +164,15 @@ def limits():
     text = b'gas = "fhp1"\nwidth = 4096\nheight = 4096\nparticles = [[0, 0, 1], [4095, 4095, 5]]\n'
     words = "coarse --generations 1 --stages 2 --block-width 4096 --block-height 4096".split()
     usual = run_within(resource.RLIM_INFINITY, words, text)
-    count(usual.returncode == 0, "a large area without a limit")
+    check("a large area without a limit", usual.returncode == 0)
     answered = 0
     for mebibytes in (8, 12, 16, 20, 24, 28, 32, 40, 48, 56, 64, 80, 96, 128, 192, 256):
         ended = run_within(mebibytes << 20, words, text)
         is_whole = ended.returncode == 0 and ended.stdout == usual.stdout
         told = ended.returncode, ended.stdout, ended.stderr
         answered += is_whole
-        count(
-            is_whole or told == (3, b"", b"memory refused\n"),
-            f"a large area in {mebibytes} MiB: status {ended.returncode}: {ended.stderr[:200]!r}",
-        )
+        is_refused = told == (3, b"", b"memory refused\n")
+        check(f"a large area in {mebibytes} MiB: {ended}"[:400], is_whole or is_refused)
     print(f"a large area: answered in {answered} of 16 address spaces")
 
 
@@ -221,8 +198,7 @@ def main():
         probes = [([PROBES, call], os.devnull) for call in ("run_2", "run_2_long")]
         as_many(library, "run_2 and run_2_long", probes)
     limits()
-    print(f"{passed} passed, {failed} failed")
-    return 1 if failed else 0
+    return needs.tell_checks()
 
 
 sys.exit(main())
