@@ -38,7 +38,7 @@ quick() {
 package() {
     parts package/engine.py "${package[@]}" package/commands.py package/explanations.py package/wheel.py \
         documents/printed_commands.py package/notebook.py page/browser.py
-    ! has node "the page's kernel" || { part node tests/page/kernel.mjs; part node tests/page/calls.mjs; part node tests/page/model.mjs; }
+    ! has node "the page's kernel" || { part node tests/page/kernel.mjs; part tests/plain/calls.py page; part node tests/page/model.mjs; }
     parts package/tiles.py package/experiments.py
 }
 

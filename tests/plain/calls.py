@@ -1,15 +1,14 @@
 #!/usr/bin/env python3
 """Compares two libraries of include/fhpgas.h call by call: random lawful and refused calls must return the same status and leave the same
-memory. Without words these are the plain library of `make plain` and the proved one that make left beside the package. For a library of
-another machine PLAIN is a program that calls it (calls.c).
+memory. Without words these are the plain library of `make plain` and the proved one that make left beside the package, with `page` the
+page's module and the proved one. For what this process cannot load PLAIN is a command that calls it (calls.c, tests/page/calls.mjs).
 
-    tests/plain/calls.py [PLAIN PROVED [SEED ROUNDS]]
+    tests/plain/calls.py [page | PLAIN PROVED [SEED ROUNDS]]
 
 Ends with the counts."""
 
 import collections
 import itertools
-import pathlib
 import struct
 import subprocess
 import sys
@@ -23,6 +22,7 @@ import numpy as np
 EDGES = [1, 63, 64, 65, 127, 128, 129, 255, 256, 257, 4096]
 WIDTHS = [*range(1, 301), *EDGES * 27]
 ROUNDS = 1500
+MODULES = [f"node {needs.ROOT}/tests/page/calls.mjs {name}" for name in ("page", "engine")]
 # statuses that a call must be seen to return
 LEAST = {"advance": 7, "sums": 5, "pack": 4, "unpack": 3}
 GASES, SIDES = (*range(engine_calls.NONE + 1), 2**32 - 1), (0, *EDGES, 65536, 65537, 2**32 - 1)
@@ -37,8 +37,9 @@ SIZES = {  # what the calls that return sizes are given
 class Far:
     """A library that another process has loaded."""
 
-    def __init__(self, path):
-        self.process = subprocess.Popen([path], stdin=subprocess.PIPE, stdout=subprocess.PIPE)
+    def __init__(self, command):
+        pipes = {"stdin": subprocess.PIPE, "stdout": subprocess.PIPE}
+        self.process = subprocess.Popen(command.split(), **pipes)
 
     def call(self, name, *words):
         """What a call returns, as engine_calls.Library.call."""
@@ -63,9 +64,9 @@ def ended(library, name, words):
     return status, [array.tobytes() for array in (arrays[:-1] if name == "advance" else arrays)]
 
 
-def compare(paths, seed, rounds):
+def compare(names, seed, rounds):
     """How often each call returned each status, in so many rounds of the calls."""
-    libraries = [(engine_calls.Library if ".so" in it.suffixes else Far)(it) for it in paths]
+    libraries = [(engine_calls.Library if it.endswith(".so") else Far)(it) for it in names]
     calls = engine_calls.Calls(libraries[0], seed, 0.04, WIDTHS, range(1, 41), 12)
     drawn = ((name, calls.draw(name)) for _ in range(rounds) for name in engine_calls.NAMES)
     sizes = ((name, words) for name, known in SIZES.items() for words in known)
@@ -86,14 +87,20 @@ def libraries():
         needs.stop(f"{plain} is missing: run make plain first")
     if not proved:
         needs.leave_out("the proved library is missing, which make builds")
-    return [plain, *proved]
+    return [str(plain), *map(str, proved)]
+
+
+def modules():
+    if not (needs.ROOT / "page/engine.js").exists():
+        needs.leave_out("page/engine.js is missing, which make builds")
+    return MODULES
 
 
 def main():
-    paths = [*map(pathlib.Path, sys.argv[1:3])] or libraries()
+    names = modules() if sys.argv[1:] == ["page"] else sys.argv[1:3] or libraries()
     seed, rounds = map(int, sys.argv[3:5] or (20, ROUNDS))
     try:
-        statuses = compare(paths, seed, rounds)
+        statuses = compare(names, seed, rounds)
     except AssertionError as different:
         return needs.tell_faults(1, [different])
     for (name, status), number in sorted(statuses.items()):
