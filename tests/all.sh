@@ -3,6 +3,8 @@
 . "$(dirname "$0")/lib/try.sh"
 set -o pipefail
 program=crates/fhpgas/out/fhpgas
+sources=(set_up/lint.sh documents/{links,sentences_and_words,definitions,proved}.py package/{imports,derivation,tested_functions}.py
+    program/code_without_contract.py) # what needs no program
 package=(package/{lattices,blocks,drawing,flows,processes}.py) # the tests of the package that runs lattices
 
 parts() { local name; for name; do part "tests/$name"; done; }
@@ -22,8 +24,7 @@ examples() {
 # quick: for the time between edits. A program that FHPGAS names, or that is built and newer than the sources, is tried from outside, else a
 # few worked examples by `rt try`, in some minutes. Nothing is proved.
 quick() {
-    parts set_up/lint.sh package/imports.py documents/links.py documents/sentences_and_words.py documents/definitions.py \
-        documents/proved.py package/derivation.py program/code_without_contract.py package/tested_functions.py
+    parts "${sources[@]}"
     if [ -n "${FHPGAS-}" ] || make -sq "$program"; then
         parts program/command_line.py program/help.py documents/printed_commands.py package/explanations.py "${package[@]}" \
             package/commands.py
@@ -77,9 +78,7 @@ case $1 in
     test)
         unset FHPGAS # what is built here is tried
         tests/set_up/install.sh || exit 1
-        parts set_up/lint.sh package/imports.py documents/definitions.py documents/proved.py package/derivation.py \
-            program/code_without_contract.py package/tested_functions.py documents/links.py documents/sentences_and_words.py \
-            set_up/missing_libraries.sh set_up/makefile.sh program/lost_wake_ups.sh
+        parts "${sources[@]}" set_up/missing_libraries.sh set_up/makefile.sh program/lost_wake_ups.sh
         [ ${#failed[@]} = 0 ] || exit 1
         gate
         part tests/program/wrong_bodies.py "$room/gate"

@@ -28,16 +28,13 @@ look() {
 # apt-get itself waits for dpkg's lock, but not for the lock of its lists
 apt() { $sudo env LC_ALL=C DEBIAN_FRONTEND=noninteractive apt-get -y -o DPkg::Lock::Timeout=300 "$@" > "$log" 2>&1 < /dev/null; }
 
-install() {
-    echo "installing by apt-get: $*"
-    until apt update || ! grep -q 'Could not get lock' "$log" || ((waits++ == 20)); do sleep 15; done
-    apt install --no-install-recommends "$@" ||
-        for package; do apt install --no-install-recommends "$package" || tail -n 1 "$log"; done
-    look
-}
-
 install_missing() {
-    [ ${#missing[@]} = 0 ] || ! command -v apt-get > /dev/null || ! $sudo true 2> /dev/null || install "${missing[@]}"
+    if [ ${#missing[@]} = 0 ] || ! command -v apt-get > /dev/null || ! $sudo true 2> /dev/null; then return; fi
+    echo "installing by apt-get: ${missing[*]}"
+    until apt update || ! grep -q 'Could not get lock' "$log" || ((waits++ == 20)); do sleep 15; done
+    apt install --no-install-recommends "${missing[@]}" ||
+        for package in "${missing[@]}"; do apt install --no-install-recommends "$package" || tail -n 1 "$log"; done
+    look
 }
 
 look

@@ -58,6 +58,7 @@ fails() {
 
 # edit FILE: a source is newer than what was built
 edit() { echo edited >> "crates/$1"; }
+edited() { edit "$1" && "${@:2}"; }
 
 try 'a missing program is built, and the engine' builds 'fhpgas gas_export' launch
 try 'each crate is told as it is proved' grep -qx 'fhpgas is proved' "$room/told"
@@ -72,14 +73,11 @@ try 'and says so' grep -q 'Nothing to be done' "$room/told"
 cp "$kit/bin/"{rattle-link,wasm-opt}
 try 'where wasm-opt is there the module is built' builds 'gas_export' build
 try 'beside the page, in base64' [ "$(cat page/engine.js)" = "globalThis.FHPGAS_ENGINE = \"$(base64 -w 0 crates/gas_export/out/new/engine.wasm)\";" ]
-edit fhpgas/src/main.rt
-try 'a program is built again where its source changed' builds 'fhpgas' launch
-edit low/src/lib.rt
-try 'both where a source below did' builds 'fhpgas gas_export' launch
+try 'a program is built again where its source changed' edited fhpgas/src/main.rt builds 'fhpgas' launch
+try 'both where a source below did' edited low/src/lib.rt builds 'fhpgas gas_export' launch
 rm crates/low/src/lib.rt
 try 'or is gone' builds 'fhpgas gas_export' launch
-edit tests/src/lib.rt && edit low/must-fail/no.edit
-try 'other files build nothing' builds '' quietly
+try 'other files build nothing' edited tests/src/lib.rt edited low/must-fail/no.edit builds '' quietly
 try 'another level needs the program alone' builds 'fhpgas' build CPU=x86-64-v0
 try 'one of a level that no machine has is built again' builds 'fhpgas' launch
 touch crates/fhpgas/out/fhpgas
@@ -90,8 +88,8 @@ try 'the next is for this machine again' builds 'fhpgas' launch
 try 'with its level beside it' grep -qx "$(tools/level)" crates/fhpgas/out/level
 
 echo 'something else' > crates/fhpgas/refused
-edit fhpgas/src/main.rt
-try 'a build that fails ends with status 70, and shows the end of a log that it does not understand' fails 'something else'
+try 'a build that fails ends with status 70, and shows the end of a log that it does not understand' \
+    edited fhpgas/src/main.rt fails 'something else'
 try 'and names it' grep -q '^crate fhpgas was not built; the whole log is crates/fhpgas/out/build.log' "$room/told"
 rm crates/fhpgas/refused
 build

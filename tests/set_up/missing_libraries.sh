@@ -21,26 +21,21 @@ printf 'import needs, of_this_test\n' > "$top/tests/lib/script.py"
 
 sets_up() { : > "$room/asked" && "$top/tests/set_up/install.sh" > "$room/told" 2>&1; }
 tells() { grep -qE "$1" "$room/told"; }
-asks() { [ "$(paste -sd ' ' "$room/asked")" = "$1" ] || { cat "$room/asked" && false; }; }
+asks() { sets_up; [ "$(paste -sd ' ' "$room/asked")" = "$1" ] || { cat "$room/asked" && false; }; }
 
 echo of-this-test==1.2 > "$top/tests/lib/requirements.txt"
 installed='update install --no-install-recommends python3-of-this-test'
 echo 0 > "$room/user"
-SETUP=no sets_up
-try 'SETUP=no installs nothing' asks ''
+try 'SETUP=no installs nothing' eval 'SETUP=no asks ""'
 try 'and names what is missing, with its package' tells '^missing.* python3-of-this-test$'
-sets_up
 try 'root installs it' asks "$installed"
 try 'and says so' tells '^installing by apt-get: python3-of-this-test$'
 touch "$room/lock"
-sets_up
 try "another's lock is waited for" asks "update sleep $installed"
 echo 1000 > "$room/user"
-sets_up
 try 'a user without root does not' asks ''
 try 'what pip cannot find either is named' tells '^missing.* python3-of-this-test$'
 touch "$room/may"
-sets_up
 try 'one with sudo does' asks "$installed"
 rm "$room/may"
 if python3 -m pip --version > /dev/null 2>&1; then

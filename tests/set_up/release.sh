@@ -9,8 +9,6 @@ alone() { (cd "$folder" && exec env -i PATH="${path-/nowhere}" PYTHONPATH=python
 # prints FILE SCENE: whether the unpacked program prints FILE for the scene, and leaves standard error empty
 prints() { alone ./fhpgas run --generations 1 < "$2" > "$room/printed" 2> "$room/told" && cmp "$room/printed" "$1" && [ ! -s "$room/told" ]; }
 
-refuses() { ! alone ./fhpgas check < /dev/null > "$room/printed" 2> "$room/told" && [ ! -s "$room/printed" ] && [ -s "$room/told" ]; }
-
 needs_libc() {
     ldd "$folder/fhpgas" > "$room/needed" && ! grep -vE '^\s*(linux-vdso\.so\.1|(/lib64/)?ld-linux-x86-64\.so\.2|lib(c|m)\.so\.6) ' "$room/needed"
 }
@@ -54,10 +52,7 @@ try 'and in it nothing but files and folders' [ -z "$(find "$folder" ! -type f !
 try 'it is the built program' cmp "$folder/fhpgas" crates/fhpgas/out/fhpgas
 
 printf 'generation 1 particles 2\n....02..\n........\n..10....\n' > "$room/wanted"
-printf 'gas = "fhp1"\nchirality = "left"\ncells = ["........", "..09....", "........"]\n' > "$room/scene"
-try 'it prints the two particles flown apart' prints "$room/wanted" "$room/scene"
-try 'so it does for the scene that comes with it' prints "$room/wanted" "$folder/scenes/head_on.toml"
-try 'a scene of no text is refused' refuses
+try 'it prints the two particles flown apart' prints "$room/wanted" "$folder/scenes/head_on.toml"
 try 'it needs the C library alone' needs_libc
 
 try 'make lists there what it can do, and no error' lists
