@@ -66,37 +66,31 @@ LIMITS = {
     "stages": taken_up_to(64, STAGES),
     "capacity": taken_up_to(1024, CAPACITY),
     "threads": taken_up_to(64, THREADS) | {8: None},
-    "generations": dict.fromkeys([0, 10**6])
-    | dict.fromkeys([10**6 + 1, 2**64 - 1], GENERATIONS)
-    | {2**64: USAGE},
-    "block-width": {0: USAGE, 1: None, 4096: None, 4097: USAGE},
-    "block-height": {0: USAGE, 1: None, 4096: None, 4097: USAGE},
+    "generations": {0: None, 10**6: None, 2**64: USAGE}
+    | dict.fromkeys([10**6 + 1, 2**64 - 1], GENERATIONS),
 }
+LIMITS |= dict.fromkeys(
+    ("block-width", "block-height"), {0: USAGE, 1: None, 4096: None, 4097: USAGE}
+)
 
 # Words that the program reads with the scene DRIFT: the status and what it prints.
+RUNS = """
+    --generations 1
+    --generations=1
+    --generations 0001
+    --generations +1
+    --capacity 1 --stages=64 --generations 1
+    --threads=3 --stages 5 --capacity 1 --generations 1
+    --threads 2 --generations 1
+    --threads 2 --stages 2 --generations 1
+    --threads 1 --stages 2 --generations 1
+    --threads 1 --capacity 1 --generations 1
+"""
+STILL = DRIFTED.replace("generation 1", "generation 0").replace("01......", "......01")
 WORDS = [
-    *(
-        (f"run {words}", 0, DRIFTED, "")
-        for words in (
-            "--generations 1",
-            "--generations=1",
-            "--generations 0001",
-            "--generations +1",
-            "--capacity 1 --stages=64 --generations 1",
-            "--threads=3 --stages 5 --capacity 1 --generations 1",
-            "--threads 2 --generations 1",
-            "--threads 2 --stages 2 --generations 1",
-            "--threads 1 --stages 2 --generations 1",
-            "--threads 1 --capacity 1 --generations 1",
-        )
-    ),
+    *((f"run {words}", 0, DRIFTED, "") for words in RUNS.strip().split("\n")),
     # a turn is a number of 32 bits, and a turn of a missing member changes nothing
-    (
-        "replay --generations 0 4294967295",
-        0,
-        "done\n" + DRIFTED.replace("generation 1", "generation 0").replace("01......", "......01"),
-        "",
-    ),
+    ("replay --generations 0 4294967295", 0, f"done\n{STILL}", ""),
     ("replay --generations 0 4294967296", 2, "", SOMETHING),
     *((f"{command} --help", 0, SOMETHING, "") for command in " run check coarse replay".split(" ")),
     ("coars --generations 1", 2, "", re.compile(r"(?s).*'coarse'.*")),
@@ -117,6 +111,8 @@ REFUSED = {
 
 # Lines of bash, run in a folder with the scenes `drift` and `wide`: the status and what is printed.
 FAILED = re.compile(r"write: failed after \d+ bytes\n")
+PIPED = "./fhpgas run --generations 0 < wide | head -c 10 > /dev/null; exit ${PIPESTATUS[0]}"
+FULL = "(trap '' XFSZ; ulimit -f 1; ./fhpgas run --generations 0 < wide > cut); status=$?; wc -c < cut; exit $status"
 STREAMS = [
     ("./fhpgas run --generations 1 < drift > /dev/full", 4, "", "write: failed after 0 bytes\n"),
     ("./fhpgas run --generations 1 --stages 0 < drift > /dev/full", 1, "", STAGES + "\n"),
@@ -124,18 +120,8 @@ STREAMS = [
     ("./fhpgas run --generations 1 < drift >&-", 4, "", "write: failed after 0 bytes\n"),
     ("./fhpgas run --generations 1 --stages 0 < drift 2>&-", 1, "", ""),
     ("./fhpgas run --generations 1 < drift 2>&-", 0, DRIFTED, ""),
-    (
-        "./fhpgas run --generations 0 < wide | head -c 10 > /dev/null; exit ${PIPESTATUS[0]}",
-        4,
-        "",
-        FAILED,
-    ),
-    (
-        "(trap '' XFSZ; ulimit -f 1; ./fhpgas run --generations 0 < wide > cut); status=$?; wc -c < cut; exit $status",
-        4,
-        "1024\n",
-        "write: failed after 1024 bytes\n",
-    ),
+    (PIPED, 4, "", FAILED),
+    (FULL, 4, "1024\n", "write: failed after 1024 bytes\n"),
     ("./fhpgas run --generations 1 <&-", 1, "", "input: read failed\n"),
     ("./fhpgas run --generations 1 < .", 1, "", "input: read failed\n"),
     ("./fhpgas run --generations x < .", 2, "", SOMETHING),
@@ -324,9 +310,8 @@ def many_turns():
         turns = "0 1 0 1 1 0 1 " + "0 0 1 1 " * (rows - 3) + "0 1 0 1 0"
         words = ["replay", "--generations", "1", "--stages", "1", "--capacity", "1", *turns.split()]
         belts = f"belt 0 put {rows} taken {rows}\nbelt 1 put {rows} taken "
-        yield words, scene, 0, f"done\n{belts}{rows}\ngeneration 1 particles 1\n" + "..\n" * (
-            rows - 1
-        ) + "01\n", ""
+        cells = "generation 1 particles 1\n" + "..\n" * (rows - 1) + "01\n"
+        yield words, scene, 0, f"done\n{belts}{rows}\n{cells}", ""
         yield words[:-1], scene, 0, f"not done\n{belts}{rows - 1}\n", ""
 
 
@@ -380,25 +365,21 @@ def stored():
     for path in sorted((needs.ROOT / "scenes").glob("*.toml")):
         scene = path.read_text()
         first = int((re.findall(r"^generation = (\d+)$", scene, re.M) or ["0"])[0])
-        yield ["run", "--generations", "3"], scene, 0, re.compile(
-            rf"(?s)generation {first + 3} particles .+"
-        ), ""
+        wanted = re.compile(rf"(?s)generation {first + 3} particles .+")
+        yield ["run", "--generations", "3"], scene, 0, wanted, ""
 
 
 def version():
     """The version is cited and has the newest entry of the changes, and the kit is what README names and what proves it, if it is here. What
     plain Rust builds says so instead of the kit."""
-    cited = re.search(r"^version: (.*)$", (needs.ROOT / "CITATION.cff").read_text(), re.M).group(1)
-    kit = re.search(r"`(rattle-kit-[^`]*)`", (needs.ROOT / "README.md").read_text()).group(1)
-    here = (
-        subprocess.run(["rt", "version"], capture_output=True, text=True).stdout.strip()
-        if shutil.which("rt")
-        else kit
-    )
-    told = (
-        re.search(rf"^## {re.escape(cited)}\b", (needs.ROOT / "CHANGELOG.md").read_text(), re.M)
-        and re.sub(r"^(rattle-kit-\d+)[a-z]* ", r"\1 ", here) == kit
-    )
+    texts = [
+        (needs.ROOT / name).read_text() for name in ("CITATION.cff", "README.md", "CHANGELOG.md")
+    ]
+    cited = re.search(r"^version: (.*)$", texts[0], re.M)[1]
+    kit = re.search(r"`(rattle-kit-[^`]*)`", texts[1])[1]
+    here = needs.printed(["rt", "version"]).decode().strip() if shutil.which("rt") else kit
+    is_kit = re.sub(r"^(rattle-kit-\d+)[a-z]* ", r"\1 ", here) == kit
+    told = is_kit and re.search(rf"^## {re.escape(cited)}\b", texts[2], re.M)
     build = r"plain Rust, .+, not proved" if IS_PLAIN else re.escape(kit)
     wanted = re.compile(rf"fhpgas {re.escape(cited)} \({build}\)\n")
     yield ["--version"], "", 0, wanted if told else "what CHANGELOG and README tell", ""
