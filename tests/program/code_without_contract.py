@@ -98,12 +98,9 @@ def powers(path):
     """The powers that a file names in its code or imports, whatever it calls them there."""
     code, names = spelled_out(path.read_text())
     paths = {*re.findall(r"\b(?:std|core)(?:::\w+)+", code), *names.values()}
-    parts = {
-        part
-        for path in paths
-        if re.match("(std|core)(::(?!simd)|$)", path)
-        for part in path.removesuffix("::rt").removeprefix("std::rt::").split("::")
-    }
+    paths = {path for path in paths if re.match("(std|core)(::(?!simd)|$)", path)}
+    whole = (path.removesuffix("::rt").removeprefix("std::rt::") for path in paths)
+    parts = {part for path in whole for part in path.split("::")}
     return parts & BROUGHT | set(re.findall(r"\w+", code)) & SEEN
 
 

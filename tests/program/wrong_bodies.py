@@ -52,9 +52,8 @@ def place(crate, told):
     if proof := re.search(r"\./proofs/([\w/+]+)/(?:Answers|Invariants|Proof)\.antt", told):
         file, function = source_of(crate, proof[1].split("/"))
         lines = (CRATES / crate / file).read_text().split("\n")
-        promised = next(
-            (clauses for name, clauses in reversed(functions(lines)) if name == function), []
-        )
+        at = reversed(functions(lines))
+        promised = next((clauses for name, clauses in at if name == function), [])
     elif note := re.search(r"(src/[\w/]+\.rt):(\d+)", told):
         file, lines = note[1], (CRATES / crate / note[1]).read_text().split("\n")
         at = functions(lines)
@@ -74,9 +73,8 @@ def place(crate, told):
         return file, function, (promised or ["ensures"])[0]  # of a trait, if it has none of its own
     if goal.startswith("returns"):
         return file, function, f"one of its {len(promised)} clauses"
-    if len(promised) == 1 and not re.match(
-        r"(\w+-)?(requires|overflow|bounds|invariant_of|loop)", goal
-    ):
+    of_a_call = r"(\w+-)?(requires|overflow|bounds|invariant_of|loop)"
+    if len(promised) == 1 and not re.match(of_a_call, goal):
         return file, function, f"{promised[0]}, in the lemma {goal}"
     return file, function, f"not a clause: {goal}"
 
@@ -91,16 +89,13 @@ def read_table():
 def write_table(letter, places):
     rows = [(edit, *place) for edit, place in sorted(places.items())]
     wide = [max(len(row[i]) for row in rows) + 2 for i in range(3)]
-    lines = [
-        f"{e:{wide[0]}}{file:{wide[1]}}{call:{wide[2]}}{clause}" for e, file, call, clause in rows
-    ]
+    lines = ("".join(f"{it:{n}}" for it, n in zip(row, [*wide, 0])) for row in rows)
     TABLE.write_text("\n".join([letter, *lines]) + "\n")
 
 
 def main():
-    logs = [
-        pathlib.Path(word).read_text(errors="replace") for word in sys.argv[1:] if word != "--write"
-    ]
+    words = [word for word in sys.argv[1:] if word != "--write"]
+    logs = [pathlib.Path(word).read_text(errors="replace") for word in words]
     tried = [it for log in logs for it in TRIED.findall(log)]
     found = {f"{crate}/{edit}": place(crate, told) for crate, edit, told in tried}
     edits = {f"{path.parts[-3]}/{path.stem}" for path in CRATES.glob("*/must-fail/*.edit")}
@@ -113,11 +108,9 @@ def main():
     compared = 3 if letter == recorded else 1
     wrong = [f"{edit} is not in the log" for edit in sorted(said.keys() & edits - found.keys())]
     wrong += [f"{edit} is no edit" for edit in sorted(said.keys() - edits)]
-    wrong += [
-        f"{edit} was refused at {' '.join(found[edit])}"
-        for edit in sorted(said.keys() & found.keys())
-        if found[edit][:compared] != said[edit][:compared]
-    ]
+    both = sorted(said.keys() & found.keys())
+    moved = [edit for edit in both if found[edit][:compared] != said[edit][:compared]]
+    wrong += [f"{edit} was refused at {' '.join(found[edit])}" for edit in moved]
     clauses = sum(bool(re.fullmatch(r"\w+", it[2])) for it in said.values())
     print(f"{clauses} of {len(edits)} edits are refused at a clause that their function promises")
     left_out = [f"{edit}, which the table lacks" for edit in sorted(edits - said.keys())]
