@@ -10,10 +10,7 @@ rm crates/gas_geom/must-fail/* # the gate has tried them
 mapfile -t quoted < <(sed -n '/^ *\/\/\/ /,/^ *}/s/^ *//p' CONTRIBUTING.md)
 
 # quotes: whether the change has the comment, the signature and the clause of the page
-quotes() {
-    local line
-    for line in "${quoted[@]:0:3}"; do grep -qF "$line" docs/first_change.diff || return; done
-}
+quotes() { ! printf '%s\n' "${quoted[@]:0:3}" | grep -vxFf <(sed -n 's/^+ *//p' docs/first_change.diff); }
 
 # prove: whether the crate, which needs no other, is proved as a repository of its own, since where CI is set rt ci takes no names
 prove() {
