@@ -375,7 +375,10 @@ def address(page):
 def resize(page, width, height):
     metrics = {"width": width, "height": height, "deviceScaleFactor": 1, "mobile": False}
     page.driver.execute_cdp_cmd("Emulation.setDeviceMetricsOverride", metrics)
-    page.wait(f"innerWidth === {width} && view.clientWidth === {width} && !screen.isScheduled")
+    page.wait(f"innerWidth === {width} && view.clientWidth === {width}")
+    # What observes sizes was told by the second frame.
+    frames = "requestAnimationFrame(() => requestAnimationFrame(arguments[0]))"
+    page.driver.execute_async_script(frames)
 
 
 def small(page):
