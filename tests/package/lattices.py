@@ -39,8 +39,7 @@ film("a.gif", start)                                a film or a strip has severa
 film("no/a.gif", [start])                           no/a.gif: No such file or directory
 mean([start.blocks(), start.blocks()])              blocks are added
 start.plot("speed", 1, block=8)                     a block is two integers, columns and rows, not 8
-Lattice([[0]], gas="fhp2")                          a gas is one of fhp1, hpp, fhp-rest
-Lattice([[0]], gas="fhp2")                          , not 'fhp2'
+Lattice([[0]], gas="fhp2")                          a gas is one of fhp1, hpp, fhp-rest, not 'fhp2'
 Lattice([[0]], chirality="up")                      a chirality is one of seeded, left, right, not 'up'
 Lattice([[0]], seed=-1)                             a seed is an integer from 0 to 9223372036854775807, not -1
 start.replace(seed=1.0)                             not 1.0

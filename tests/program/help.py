@@ -17,7 +17,7 @@ USAGE = re.compile(r"^Example: |^Usage: |^ +-\w, ")
 OPTION = re.compile(r"^ +--([\w-]+) <\w+> .*?(?=\n +-|\n\n)", re.M | re.S)
 RANGE = re.compile(r"(\d+) to (\d+)")
 DEFAULT = re.compile(r"\[default: (\d+)\]")
-PAIRS = [  # words of the help and of FORMATS, whose numbers and names are equal
+PAIRS = [  # words of the help and of FORMATS, whose numbers are equal
     (r"`version = (2)` .* sides up to (65536) cells", r"of version (2) has 1 to (65,536) rows and\s+columns"),
     (r"instead of (4096)", r"of version 1 has 1 to (4096) rows and columns"),
     ("odd rows lie half a cell to the east", "odd rows lie half a cell to the east"),
@@ -25,8 +25,8 @@ PAIRS = [  # words of the help and of FORMATS, whose numbers and names are equal
     (r"line per belt, from (0)", r"blocks and belts count from (0)"),
     (r"one line per block", r"one line per block"),
     (r"among the blocks, from (0)", r"blocks and belts count from (0)"),
-    (r"in units of 1/2 and of\s+half the square root of 3 in FHP-I([\w ,-]+), in units", r"in `fhp1`([\w ,`-]+) half of it"),
-    (r"half the square root of 3 in FHP-I([\w ,-]+), in units", r"in `fhp1`([\w ,`-]+) √3/2 of the momentum"),
+    (r"in units of 1/2 and of\s+half the square root of 3 in FHP-I and fhp-rest", r"in `fhp1` and `fhp-rest` half of it"),
+    (r"half the square root of 3 in FHP-I and fhp-rest", r"in `fhp1` and `fhp-rest` √3/2 of the momentum"),
     (r"units of 1 in HPP", r"in `hpp` the momentum of a particle that moves"),
     (r"(0) is the feeder", r"Turn (0) is the \*\*feeder\*\*"),
     ("G generations need at least G workers", "so G is at most N"),
@@ -46,9 +46,8 @@ def rows(formats):
             yield name, (RANGE.findall(limits.replace(",", "")), re.findall(r"^\d+", default))
 
 
-def plain(found):
-    """The numbers and names of a match, without commas and the signs of code."""
-    return [re.sub("[`,]", "", group) for group in found.groups()]
+def numbers(found):
+    return [group.replace(",", "") for group in found.groups()]
 
 
 def complaints(told, formats):
@@ -64,7 +63,7 @@ def complaints(told, formats):
             compared |= lines_of(told, found)
         if not here or not there:
             yield f"not said: {ours if not here else theirs}"
-        elif any(plain(found) != plain(there) for found in here):
+        elif any(numbers(found) != numbers(there) for found in here):
             yield f"the help says {here[0][0]!r}, FORMATS {there[0]!r}"
     for at, line in enumerate(told.split("\n")):
         if STATES.search(line) and not USAGE.search(line) and at not in compared:
