@@ -24,7 +24,7 @@ BLOCK = re.compile(r"^```(\w*)\n(.*?)^```$", re.M | re.S)
 
 def fault(commands, wanted, room):
     """What is wrong if a block does not end with 0, or prints other text than `wanted` (None: any), or something on standard error."""
-    known = {"capture_output": True, "text": True, "timeout": 600}
+    known = {"capture_output": True, "text": True, "timeout": needs.PATIENCE}
     try:
         ran = subprocess.run(["bash", "-ec", commands], cwd=room, **known)
     except subprocess.TimeoutExpired as late:

@@ -22,7 +22,6 @@ WORDS = (
     "--disable-sync",
 )
 FILE = needs.ROOT / "page/fhpgas.html"
-PATIENCE = 600  # seconds: far more than anything takes, and nothing here depends on it
 NAMES = (
     "const { $, chosen, look, marks, motion, notes, said, screen, shown } = fhpgas, head = fhpgas.head(), view = $('view'),"
     " solid = head && head.width * head.height - head.fluid,"
@@ -51,7 +50,7 @@ class Page:
             room,
             has_fingers,
         )
-        self.driver.set_script_timeout(PATIENCE)
+        self.driver.set_script_timeout(needs.PATIENCE)
         self.go(after)
 
     def go(self, after):
@@ -69,7 +68,7 @@ class Page:
         return self.js(f"return {value}")
 
     def wait(self, condition):
-        end = time.monotonic() + PATIENCE
+        end = time.monotonic() + needs.PATIENCE
         while not (found := self.now(condition)):
             if time.monotonic() > end:
                 raise Late(f"{condition} did not come: {self.now('notes')}")
@@ -141,7 +140,7 @@ class Page:
         """The file that a button saves."""
         old = set(self.room.iterdir())
         self.click(button)
-        for _ in range(20 * PATIENCE):
+        for _ in range(20 * needs.PATIENCE):
             for file in set(self.room.glob(f"*{suffix}")) - old:
                 if file.stat().st_size:
                     return file.read_bytes()

@@ -52,7 +52,7 @@ def wrong(path):
     before = nbformat.read(path, 4)
     after = nbformat.from_dict(before)
     known = {"kernel_name": "python3", "resources": {"metadata": {"path": str(path.parent)}}}
-    NotebookClient(after, timeout=600, **known).execute()
+    NotebookClient(after, timeout=needs.PATIENCE, **known).execute()
     if "--keep" in sys.argv[1:]:
         for cell in after.cells:
             shrink(cell)

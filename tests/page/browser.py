@@ -466,7 +466,7 @@ def large(room):
 
 
 SELF_TEST = """
-const until = async (isSo) => { for (let n = 0; n < 2000 && !isSo(); n++) await new Promise((go) => setTimeout(go, 30)); return isSo(); };
+const until = async (isSo) => { for (let n = 0; n < 20000 && !isSo(); n++) await new Promise((go) => setTimeout(go, 30)); return isSo(); };
 (async () => {
   const { $, shown, head, said: words, look } = fhpgas, said = (what, isSo) => dump(`RESULT ${isSo ? 1 : 0} ${what}\\n`);
   const event = (kind, x, y) => $("view").dispatchEvent(new PointerEvent(kind, { clientX: x, clientY: y, pointerId: 1, pointerType: "mouse", bubbles: true }));

@@ -42,7 +42,7 @@ TEXTS = TEXTS.replace("WHERE", "'--generations <G>': invalid digit found in stri
 
 
 def run(program, *words, text=SCENE, **environment):
-    known = {"env": os.environ | environment, "capture_output": True, "timeout": 60}
+    known = {"env": os.environ | environment, "capture_output": True, "timeout": needs.PATIENCE}
     return subprocess.run([program, *words], input=text.encode(), **known)
 
 

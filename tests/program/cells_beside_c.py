@@ -60,12 +60,12 @@ def fault(number, room):
     rows = drawn(rng, width, height, directions)
     keys = f'version = 2\ngas = "{gas}"\nchirality = "{chirality}"\nseed = {seed}\ngeneration = {first}\n'
     scene = f"{keys}cells = {rows}\n".encode()
-    ours = needs.printed([PROGRAM, "run", "--generations", generations, *plan], scene, timeout=300)
+    ours = needs.printed([PROGRAM, "run", "--generations", generations, *plan], scene)
     word = seed if chirality == "seeded" else chirality
     programs = [[room / "bytes", generations, word, gas]]
     programs += [[room / "bands", generations, 3, word]] * (gas == "fhp1")
     start = "\n".join([f"generation {first} particles 0", *rows, ""]).encode()
-    wrong = [it[0].name for it in programs if needs.printed(it, start, timeout=300) != ours]
+    wrong = [it[0].name for it in programs if needs.printed(it, start) != ours]
     sizes = f"{width} x {height}, {generations} generations, {stages} stages, {threads} threads"
     return f"map {number}: {gas}, {chirality}, {sizes}", wrong
 

@@ -34,7 +34,7 @@ def after_golly(rows, generations, room):
         f"x = {width}, y = {height}, rule = HPP:T{width},{height}\n{lines}!\n"
     )
     words = f"bgolly -a RuleLoader -s {RULES} -q -q -m {generations} -o".split()
-    needs.printed([*words, room / "after.rle", room / "before.rle"], timeout=100)
+    needs.printed([*words, room / "after.rle", room / "before.rle"])
     found = [[0] * width for _ in range(height)]
     x = y = 0
     text = re.sub(r"^#.*\n|^x =.*\n", "", (room / "after.rle").read_text(), flags=re.M)

@@ -288,8 +288,10 @@ def blocks(width, height):
 def of_limits():
     for option, limits in LIMITS.items():
         of_blocks = {"block-width": 2, "block-height": 2} if option.startswith("block") else {}
+        # four threads take minutes for a million generations of three rows where others want processors
+        alone = {"threads": 1} if option == "generations" else {}
         for number, refusal in limits.items():
-            values = {"generations": 1, **of_blocks, option: number}
+            values = {"generations": 1, **of_blocks, **alone, option: number}
             words = [f"--{name}={value}" for name, value in values.items()]
             words = ["coarse" if of_blocks else "run", *words]
             if refusal is USAGE:
@@ -405,7 +407,7 @@ def programs():
 
 def answer(words, text, room):
     given = text if isinstance(text, bytes) else text.encode()
-    ran = subprocess.run(words, input=given, capture_output=True, timeout=120, cwd=room)
+    ran = subprocess.run(words, input=given, capture_output=True, timeout=needs.PATIENCE, cwd=room)
     return ran.returncode, ran.stdout.decode(errors="replace"), ran.stderr.decode(errors="replace")
 
 

@@ -133,7 +133,8 @@ def fed_back(printed):
 def run(text, *words):
     """The status and what was printed, on standard error if standard output is empty."""
     try:
-        done = subprocess.run([PROGRAM, *words], input=text, capture_output=True, timeout=60)
+        known = {"input": text, "timeout": needs.PATIENCE}
+        done = subprocess.run([PROGRAM, *words], capture_output=True, **known)
     except subprocess.TimeoutExpired as fault:
         return None, str(fault)
     if bool(done.stdout) == bool(done.stderr):

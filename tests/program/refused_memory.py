@@ -20,11 +20,10 @@ import tempfile
 
 sys.path.append(f"{sys.path[0]}/../lib")
 import needs
-from needs import check
+from needs import PATIENCE, check
 
 TOP = needs.ROOT
 PROGRAM, PROBES = needs.built_program(), needs.built_program("probes")
-SECONDS = 60  # a hundred times what the slowest run takes
 
 BLOCKS = "--generations 2 --block-width 8 --block-height 8"
 REQUESTS = [
@@ -62,7 +61,7 @@ class Ended:
     def __init__(self, library, words, scene, refuse):
         with tempfile.NamedTemporaryFile() as seen:
             environment = {**os.environ, **refuse, "REFUSE_SEEN": seen.name, "LD_PRELOAD": library}
-            known = {"capture_output": True, "env": environment, "timeout": SECONDS}
+            known = {"capture_output": True, "env": environment, "timeout": PATIENCE}
             with open(scene, "rb") as text:
                 ran = subprocess.run(words, stdin=text, **known)
             numbers = seen.read().split()
@@ -155,7 +154,7 @@ def asks_for_no_more(library, room):
 def run_within(limit, words, text):
     """Runs the program in an address space of a number of bytes."""
     limited = lambda: resource.setrlimit(resource.RLIMIT_AS, (limit, limit))
-    known = {"input": text, "capture_output": True, "timeout": SECONDS, "preexec_fn": limited}
+    known = {"input": text, "capture_output": True, "timeout": PATIENCE, "preexec_fn": limited}
     return subprocess.run([PROGRAM, *words], **known)
 
 
