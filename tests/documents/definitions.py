@@ -9,14 +9,13 @@ The definitions of the kit's crates that all these reach are counted and named, 
 Fails if PROVED and README have other counts of lines, of the kit's if it has PROVED's letter, if a definition to be believed names a type
 that is not public, if one, or what a public call promises, cites a constant of the code instead of the number, and if a file of specs/ has
 a definition that need not be believed without saying in its first line that its words are inner ones. Ends with the counts."""
-import collections
 import pathlib
 import re
 import sys
 import textwrap
 
 sys.path.append(f"{sys.path[0]}/../lib")
-import kit_definitions
+import antt
 import needs
 
 CRATES = needs.ROOT / "crates"
@@ -27,8 +26,6 @@ SAID = {  # of the lines for answer
     "docs/PROVED.md": "{} lines of ours",
     "README.md": "{} lines of [definitions]",
 }
-NAME = re.compile(r"[A-Za-z_ℕℤ⊤⊥][\w'⊤⊥ℕℤ-]*")
-HEAD = re.compile(r"^(?:(?:pub|abbrev|unfoldable|record|data) )+([\w'-]+)", re.M)
 USE_OF_TYPE = re.compile(
     r"(?m)^\s*use Rattle\.(\w+)\.specs\.declared\.[\w.]*?(\w+)(?:\.TheVariants)?(?:\.\{([^}]*)\}| as (\w+))"
 )
@@ -62,23 +59,9 @@ published vectors. The kit's `CRATE/specs` has them. In `{}` the definitions abo
 out:
 """
 
-# A definition is known by its crate, its file and its name. It has lines, and uses other definitions and the code's types. Its words are kept.
-Definition = collections.namedtuple("Definition", "lines uses types words")
-
-
-def names_in(text, mark):
-    """The names that a text uses outside comments."""
-    return set(NAME.findall(re.sub(re.escape(mark) + r"[^\n]*", "", text)))
-
 
 def is_own(crate):
     return (CRATES / crate).is_dir()
-
-
-def imports(text):
-    """The definitions that `use` lines bring in, by their names here."""
-    brought = kit_definitions.brought(text).items()
-    return {name: key for name, key in brought if is_own(key[0])}
 
 
 def types_in(text):
@@ -89,36 +72,6 @@ def types_in(text):
             here = [part.strip().split(" as ")[-1] for part in names.split(",")]
             found |= dict.fromkeys([alias] if alias else here, (crate, kind))
     return found
-
-
-def definitions_in(crate, file, text):
-    """The definitions of a file. The constructors of a `data` are known too, without lines, because contracts may name only these."""
-    items = [(HEAD.findall(block), block) for block in re.split(r"\n\s*\n", text)]
-    brought, types = imports(text), types_in(text)
-    local = {name: (crate, file, name) for heads, _ in items for name in heads}
-    for heads, block in (item for item in items if item[0]):
-        words = names_in(block, "--")
-        uses = {(brought | local)[word] for word in words & {*brought, *local}}
-        lines = sum(not line.lstrip().startswith("--") for line in block.strip("\n").split("\n"))
-        for name in heads:
-            key, own = (crate, file, name), lines if name == heads[0] else 0
-            own_types = {types[word] for word in words & types.keys() - local.keys()}
-            yield key, Definition(own, uses - {key}, own_types, words)
-        if re.search(r"^pub data ", block, re.M):
-            for name in re.findall(r"^  (?:pub )?([\w'-]+) :", block, re.M):
-                yield (crate, file, name), Definition(0, {(crate, file, heads[0])}, set(), set())
-
-
-def definitions_of(crate):
-    """The definitions of a crate's specs/, and which of their files are inner ones."""
-    found, inner = {}, set()
-    for path in sorted((CRATES / crate / "specs").rglob("*.antt")):
-        file = ".".join(path.relative_to(CRATES / crate / "specs").with_suffix("").parts)
-        if file != "Lib" and file.split(".")[0] != "Laws":  # proofs that must be in specs/
-            text = path.read_text()
-            found |= dict(definitions_in(crate, file, text))
-            inner |= {(crate, file)} if text.startswith(INNER) else set()
-    return found, inner
 
 
 def constants():
@@ -183,28 +136,17 @@ def clauses(text, head, kinds):
                 yield clause
 
 
-def closure(cited, known):
-    believed, waiting = set(), list(cited)
-    while waiting:
-        key = waiting.pop()
-        if key not in known:
-            sys.exit(f"tests/documents/definitions.py: {'.'.join(key)} is cited and not found")
-        waiting += known[key].uses if key not in believed else ()
-        believed.add(key)
-    return believed
-
-
 def specs(crate, file):
     return (CRATES / crate / "specs" / f"{file.replace('.', '/')}.antt").read_text()
 
 
 def shown(crate, file, believed):
     """The definitions of a file that must be believed, below the comment at its head."""
-    title, *blocks = re.split(r"\n\s*\n", specs(crate, file).strip("\n"))
+    title, *blocks = antt.blocks(specs(crate, file))
+    texts = {it.text for key, it in believed.items() if key[:2] == (crate, file)}
     yield f"\n## `{crate}/specs/{file.replace('.', '/')}.antt`\n"
     yield textwrap.fill(comment_of(title), 140) + "\n"
-    is_believed = lambda block: any((crate, file, it) in believed for it in HEAD.findall(block))
-    yield "```antt\n" + "\n\n".join(filter(is_believed, blocks)) + "\n```"
+    yield "```antt\n" + "\n\n".join(block for block in blocks if block in texts) + "\n```"
 
 
 def comment_of(block):
@@ -213,17 +155,17 @@ def comment_of(block):
     return " ".join(line.removeprefix("--").strip() for line in lines)
 
 
-def reading_order(believed, known):
+def reading_order(believed):
     """The files, those of lower crates first, and in a crate each after the ones that it cites."""
     crates = re.findall(r"^(\w+)(?: staticlib)?:", (needs.ROOT / "crates.txt").read_text(), re.M)
-    cites = {key[:2]: set() for key in sorted(believed) if known[key].lines}
-    for key in believed:
-        cites.get(key[:2], set()).update(used[:2] for used in known[key].uses)
+    cites = {key[:2]: set() for key in sorted(believed)}
+    for key, definition in believed.items():
+        cites[key[:2]] |= {used[:2] for used in definition.uses} - {key[:2]}
     order = [FIRST]
     for crate in crates:
         waiting = [file for file in cites if file[0] == crate and file != FIRST]
         while waiting:
-            free = (file for file in waiting if not cites[file] & (set(waiting) - {file}))
+            free = (file for file in waiting if not cites[file] & set(waiting))
             ready = next(free, waiting[0])
             order.append(ready)
             waiting.remove(ready)
@@ -238,67 +180,59 @@ def of_the_code(types, members):
         yield f"\n`{trait}` of `{crate}`:\n\n```rust\n" + "\n".join(items) + "\n```"
 
 
-def reached_in_kit(believed, kit):
-    """The kit's definitions that ours reach, by their files."""
-    wanted = set()
-    for crate, file in {key[:2] for key in believed}:
-        text = specs(crate, file)
-        names = {it: key for it, key in kit_definitions.brought(text).items() if not is_own(key[0])}
-        for block in re.split(r"\n\s*\n", text):
-            if any((crate, file, name) in believed for name in HEAD.findall(block)):
-                code = kit_definitions.code_of(block)
-                wanted |= {names[w] for w in kit_definitions.WORD.findall(code) if w in names}
-    return kit_definitions.Kit(kit).reached(wanted)
-
-
-def lines_of(files):
-    return sum(block.count("\n") + 1 for names in files for block in set(names.values()))
+def lines_of(definitions):
+    return sum(definition.lines() for definition in set(definitions))
 
 
 def of_the_kit(reached, letter):
     yield KIT_ADDS.format(letter, lines_of(reached.values()))
-    for crate in sorted({crate for crate, _ in reached}):
-        files = {file: names for (of, file), names in sorted(reached.items()) if of == crate}
-        parts = [f"`{file}`: {', '.join(sorted(names))}" for file, names in files.items()]
-        text = f"- `{crate}`, {lines_of(files.values())} lines. " + ". ".join(parts)
-        known = {"break_on_hyphens": False, "break_long_words": False}
-        yield textwrap.fill(text, 140, subsequent_indent="  ", **known)
+    for crate in sorted({key[0] for key in reached}):
+        here = {key: it for key, it in sorted(reached.items()) if key[0] == crate}
+        files = {file: [key[2] for key in here if key[1] == file] for _, file, _ in here}
+        parts = [f"`{file}`: {', '.join(names)}" for file, names in files.items()]
+        text = f"- `{crate}`, {lines_of(here.values())} lines. " + ". ".join(parts)
+        whole = {"break_on_hyphens": False, "break_long_words": False}
+        yield textwrap.fill(text, 140, subsequent_indent="  ", **whole)
 
 
-def types_of(believed, known):
-    return {kind for key in believed for kind in known[key].types}
+def types_of(believed):
+    """The code's types that definitions name, with their crates."""
+    for (crate, file, _), definition in believed.items():
+        types = types_in(specs(crate, file))
+        yield from (types[word] for word in definition.words() if word in types)
 
 
-def complaints(believed, known, inner, public):
+def complaints(believed, known, public, limits):
     """What files and public contracts do not agree on."""
     for key in sorted(known):
         where = f"{key[0]}/specs/{key[1].replace('.', '/')}.antt: {key[2]}"
-        if key not in believed and key[:2] not in inner:
+        is_inner = specs(*key[:2]).startswith(INNER)
+        if key not in believed and not is_inner:
             yield f"{where} is cited by no public contract, and its file does not say that it holds inner words"
-        if key in believed and key[:2] in inner:
+        if key in believed and is_inner:
             yield f"{where} is cited by a public contract, and its file says that it holds inner words"
-    for crate, kind in sorted(types_of(believed, known)):
+    for crate, kind in sorted(set(types_of(believed))):
         is_public = re.compile(rf"^pub (?:struct|enum) {kind}\b", re.M).search
         if not any(map(is_public, public[crate])):
             yield f"{kind} of {crate} is named by a definition to be believed, and callers can't name it"
+    for key, definition in sorted(believed.items()):
+        for name in sorted(definition.words() & limits):
+            yield f"{key[2]} of {key[0]} must be believed, and cites {name}, a constant of the code"
 
 
 def contracts_of(public, limits):
     """What the public contracts cite, the ghost members that they name, by the traits, and which of their promises cite a constant of the
     code."""
     cited, asked, words, wrong = set(), [], set(), []
-    for crate, texts in public.items():
-        for text in texts:
-            brought, clauses_here = imports(text), list(contracts(text))
-            named = set().union(*(names_in(clause, "//") for clause in clauses_here))
-            cited |= {brought[word] for word in named & brought.keys()}
-            promised = {
-                it for clause in contracts(text, "ensures") for it in names_in(clause, "//")
-            }
-            why = f"a promise of a public call of {crate} cites {{}}, a constant of the code"
-            wrong += map(why.format, sorted(promised & limits))
-            words |= {part for clause in clauses_here for part in re.findall(r"\w+", clause)}
-            asked += [((crate, name), MEMBER.findall(body)) for name, body in traits(text)]
+    for crate, text in ((crate, text) for crate, texts in public.items() for text in texts):
+        brought, clauses_here = antt.brought(text), list(contracts(text))
+        named = {word for clause in clauses_here for word in antt.words_in(clause)}
+        cited |= {brought[word] for word in named & brought.keys() if is_own(brought[word][0])}
+        promised = {it for clause in contracts(text, "ensures") for it in antt.words_in(clause)}
+        why = f"a promise of a public call of {crate} cites {{}}, a constant of the code"
+        wrong += map(why.format, sorted(promised & limits))
+        words |= {part for clause in clauses_here for part in re.findall(r"\w+", clause)}
+        asked += [((crate, name), MEMBER.findall(body)) for name, body in traits(text)]
     named = {trait: [item for item, name in found if name in words] for trait, found in asked}
     return cited, {trait: items for trait, items in named.items() if items}, wrong
 
@@ -315,29 +249,30 @@ def unsaid(own, of_kit, letter):
 
 def main():
     public = {path.name: list(public_texts(path.name)) for path in sorted(CRATES.iterdir())}
-    known, inner, limits = {}, set(), constants()
+    letter, kit = needs.kit() or (None, CRATES)  # without the kit its definitions are not found
+    definitions = antt.Definitions(lambda crate: (CRATES if is_own(crate) else kit) / crate)
     for crate in public:
-        found, files = definitions_of(crate)
-        known, inner = known | found, inner | files
+        definitions.read_crate(crate)
+    proofs = lambda file: file.split(".")[0] in ("Lib", "Laws")  # that must be in specs/
+    known = {key: it for key, it in definitions.known.items() if not proofs(key[1])}
+    limits = constants()
     cited, members, wrong = contracts_of(public, limits)
-    believed = closure(cited, known)
-    letter, folder = kit_definitions.kit() or (None, None)
-    reached = reached_in_kit(believed, folder) if letter else {}
+    reached = definitions.reached(cited)
+    believed = {key: it for key, it in reached.items() if is_own(key[0])}
+    of_kit = {key: it for key, it in reached.items() if not is_own(key[0])}
     if sys.argv[1:]:
-        page = [HEAD_OF_PAGE, *of_the_code(types_of(believed, known), members)]
-        page += (it for file in reading_order(believed, known) for it in shown(*file, believed))
-        page += of_the_kit(reached, letter) if letter else ()
+        page = [HEAD_OF_PAGE, *of_the_code({*types_of(believed)}, members)]
+        page += (it for file in reading_order(believed) for it in shown(*file, believed))
+        page += of_the_kit(of_kit, letter) if letter else ()
         pathlib.Path(sys.argv[1]).write_text("\n".join(page) + "\n")
         return
-    own = sum(known[key].lines for key in closure(ANSWER, known))
-    of_kit = lines_of(reached.values())
-    wrong += [*unsaid(own, of_kit, letter), *complaints(believed, known, inner, public)]
-    wrong += [
-        f"{key[2]} of {key[0]} must be believed, and cites {name}, a constant of the code"
-        for key in sorted(believed)
-        for name in sorted(known[key].words & limits)
-    ]
-    print(f"{own} lines for answer, and {of_kit} of the kit's crates")
+    own = lines_of(it for key, it in definitions.reached(ANSWER).items() if is_own(key[0]))
+    wrong += unsaid(own, lines_of(of_kit.values()), letter)
+    wrong += complaints(believed, known, public, limits)
+    uses = cited.union(*(it.uses for it in known.values()))
+    lost = (key for key in sorted(uses - known.keys()) if is_own(key[0]))
+    wrong += (f"{'.'.join(key)} is cited, and no file defines it" for key in lost)
+    print(f"{own} lines for answer, and {lines_of(of_kit.values())} of the kit's crates")
     sys.exit(needs.tell_faults(len(known), wrong))
 
 

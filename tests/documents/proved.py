@@ -7,7 +7,6 @@ import re
 import sys
 
 sys.path.append(f"{sys.path[0]}/../lib")
-import kit_definitions
 import needs
 
 PAGE = needs.ROOT / "docs/PROVED.md"
@@ -40,7 +39,7 @@ def assumed(log):
 
 
 def complaints(page):
-    letter = (kit_definitions.kit() or [None])[0]
+    letter = (needs.kit() or [None])[0]
     if LOG.exists() and f"in {letter}," in page:
         reached = assumed(LOG.read_text(errors="replace"))
         if reached not in " ".join(page.split()):

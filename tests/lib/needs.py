@@ -128,6 +128,14 @@ def command(name):
         leave_out(f"{name} is missing")
 
 
+def kit():
+    """The kit with its letter, and its folder of crates; None if there is no kit."""
+    if not shutil.which("rt"):
+        return None
+    folder = pathlib.Path(printed(["rt", "doc"]).decode().strip()).parent
+    return (folder / "KIT-ID").read_text().split()[0], folder / "rattle"
+
+
 def free_memory():
     """Bytes."""
     free = re.search(r"MemAvailable: +(\d+) kB", pathlib.Path("/proc/meminfo").read_text())

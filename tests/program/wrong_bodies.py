@@ -9,7 +9,6 @@ import re
 import sys
 
 sys.path.append(f"{sys.path[0]}/../lib")
-import kit_definitions
 import needs
 
 CRATES = needs.ROOT / "crates"
@@ -100,7 +99,7 @@ def main():
     found = {f"{crate}/{edit}": place(crate, told) for crate, edit, told in tried}
     edits = {f"{path.parts[-3]}/{path.stem}" for path in CRATES.glob("*/must-fail/*.edit")}
     recorded, said = read_table()
-    letter = (kit_definitions.kit() or [recorded])[0]
+    letter = (needs.kit() or [recorded])[0]
     if "--write" in sys.argv:
         said = {edit: place for edit, place in (said | found).items() if edit in edits}
         write_table(letter, said)
