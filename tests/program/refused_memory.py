@@ -20,6 +20,7 @@ import tempfile
 
 sys.path.append(f"{sys.path[0]}/../lib")
 import needs
+from fhpgas import gas_table
 from needs import PATIENCE, check
 
 TOP = needs.ROOT
@@ -121,7 +122,7 @@ def holds_places(library, scene, row_bytes):
 
 def stated(gas, width, height, stages, capacity, threads):
     """The bytes of two lattices, and those of belts and workers, by docs/PERFORMANCE.md."""
-    directions = {"hpp": 4, "fhp1": 6, "fhp-rest": 7}[gas]
+    directions = len(gas_table.GASES[gas].momenta)
     plane = -(-width // 64) * 8
     lattices = 2 * height * ((directions + 1) * plane + 256)
     row = directions * plane + 256

@@ -116,8 +116,8 @@ fn read_table(alloc: Global, table: &Table) -> Result<Scene, SceneError>
 
 /// Reads a scene, a TOML document in UTF-8 with its keys at the top level.
 ///
-/// Both forms have these keys. Only `gas` is required: `"fhp1"`, `"hpp"` or `"fhp-rest"`. `version`
-/// is 1 or 2, and 1 by default. `chirality` is `"seeded"`, `"left"` or `"right"`, and `"seeded"` by
+/// Both forms have these keys. Only `gas` is required, the name of a `KnownGas`. `version` is 1 or
+/// 2, and 1 by default. `chirality` is `"seeded"`, `"left"` or `"right"`, and `"seeded"` by
 /// default. `seed` is 0 or more, and 0 by default. Only version 2 has `generation`, the generation
 /// of the given lattice: 0 to 1,000,000,000,000, and 0 by default.
 ///
