@@ -34,7 +34,6 @@ else
 fi
 
 tools/wheel.sh "$folder" "$room/built" || echo 'the archive has no wheel: apt-get install python3-pip python3-wheel' >&2
-
 tools/reference.sh "$folder/docs/reference" || echo 'the archive has no reference: apt-get install python3-sphinx python3-numpydoc' >&2
 
 cat > "$folder/README" << END

@@ -8,8 +8,7 @@ mkdir -p "$1"
 folder=$(realpath -- "$1")
 cd "$(dirname "$0")/.."
 cp "${2:-crates/fhpgas/out/fhpgas}" "$folder/fhpgas"
-built=(python/fhpgas/libfhpgas-*.so page/engine.j@(s))
-cp "${built[@]}" "$folder"
+cp python/fhpgas/libfhpgas-*.so page/engine.j@(s) "$folder"
 if [ -d licences ]; then cp -r licences "$folder"; exit; fi
 
 # of the program and of the engine, and of Unicode's data, of which core has tables
