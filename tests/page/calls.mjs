@@ -1,10 +1,11 @@
 // Calls the page's module of include/fhpgas.h, or the proved engine.js, for tests/plain/calls.py, as calls.c there calls a library.
 //   node tests/page/calls.mjs page|engine
 import { readFileSync, readSync, writeSync } from "node:fs";
+import { fileURLToPath } from "node:url";
 import { kernelText } from "../../page/built.mjs";
 import { moduleOf } from "../../page/src/kernel.js";
 
-const NUMBERS = 8, ARRAYS = 3, root = new URL("../..", import.meta.url).pathname;
+const NUMBERS = 8, ARRAYS = 3, root = fileURLToPath(new URL("../..", import.meta.url));
 const header = readFileSync(`${root}include/fhpgas.h`, "utf8");
 if (process.argv[2] === "engine") new Function(readFileSync(`${root}page/engine.js`, "utf8"))();
 const { exports } = new WebAssembly.Instance(await moduleOf(globalThis.FHPGAS_ENGINE ?? kernelText()));

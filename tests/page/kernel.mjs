@@ -3,6 +3,7 @@
 //   node tests/page/kernel.mjs        the program is FHPGAS, or ./fhpgas
 import { spawnSync } from "node:child_process";
 import { existsSync, readFileSync, readdirSync } from "node:fs";
+import { fileURLToPath } from "node:url";
 import { maker } from "../../page/built.mjs";
 import { Flow } from "../../page/src/flow.js";
 import { GASES, SOLID } from "../../page/src/gases.js";
@@ -12,7 +13,7 @@ import { gathered, sumsOf } from "../../page/src/sums.js";
 import { check, end, tried } from "../lib/checks.mjs";
 import { lots } from "../lib/random_numbers.mjs";
 
-const root = new URL("../..", import.meta.url).pathname, program = process.env.FHPGAS ?? `${root}fhpgas`;
+const root = fileURLToPath(new URL("../..", import.meta.url)), program = process.env.FHPGAS ?? `${root}fhpgas`;
 const kernels = { plain: await maker() };
 if (existsSync(`${root}page/engine.js`)) {
   new Function(readFileSync(`${root}page/engine.js`, "utf8"))();

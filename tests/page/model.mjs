@@ -13,6 +13,7 @@
 // updates, frames per second    | tests/page/browser.py, by the clock of the browser
 import { spawnSync } from "node:child_process";
 import { mkdtempSync, readFileSync, rmSync } from "node:fs";
+import { fileURLToPath } from "node:url";
 import { maker } from "../../page/built.mjs";
 import { Flow } from "../../page/src/flow.js";
 import { Experiment } from "../../page/src/experiment.js";
@@ -26,7 +27,7 @@ import { Stroke, cleared, dense, flipOne } from "../../page/src/tools.js";
 import { check, end, near, tried } from "../lib/checks.mjs";
 import { lots } from "../lib/random_numbers.mjs";
 
-const root = new URL("../..", import.meta.url).pathname, [histories = 60, noises = 12] = process.argv.slice(2).map(Number);
+const root = fileURLToPath(new URL("../..", import.meta.url)), [histories = 60, noises = 12] = process.argv.slice(2).map(Number);
 const make = await maker();
 const FIRST = { gas: "fhp1", chirality: "left", width: 128, height: 64, filling: 0.2, wind: 0, keep: false, shape: "none", radius: 4, seed: "3" };
 const DISC = { gas: "fhp-rest", width: 256, height: 128, filling: 0.18, wind: 0.2, keep: true, shape: "disc", radius: 11, seed: "1" };

@@ -9,6 +9,7 @@ Ends with the counts."""
 
 import collections
 import itertools
+import shlex
 import struct
 import subprocess
 import sys
@@ -22,7 +23,8 @@ import numpy as np
 EDGES = [1, 63, 64, 65, 127, 128, 129, 255, 256, 257, 4096]
 WIDTHS = [*range(1, 301), *EDGES * 27]
 ROUNDS = 1500
-MODULES = [f"node {needs.ROOT}/tests/page/calls.mjs {name}" for name in ("page", "engine")]
+CALLER = shlex.join(["node", f"{needs.ROOT}/tests/page/calls.mjs"])
+MODULES = [f"{CALLER} {name}" for name in ("page", "engine")]
 # statuses that a call must be seen to return
 LEAST = {"advance": 7, "sums": 5, "pack": 4, "unpack": 3}
 GASES, SIDES = (*range(engine_calls.NONE + 1), 2**32 - 1), (0, *EDGES, 65536, 65537, 2**32 - 1)
@@ -39,7 +41,7 @@ class Far:
 
     def __init__(self, command):
         pipes = {"stdin": subprocess.PIPE, "stdout": subprocess.PIPE}
-        self.process = subprocess.Popen(command.split(), **pipes)
+        self.process = subprocess.Popen(shlex.split(command), **pipes)
 
     def call(self, name, *words):
         """What a call returns, as engine_calls.Library.call."""
