@@ -12,7 +12,7 @@ import needs
 PAGE = needs.ROOT / "docs/PROVED.md"
 LOG = needs.ROOT / "crates/fhpgas/out/build.log"
 PROMISES = ("## The promises", "## What only tests show")
-CITED = re.compile(r"\[(`\w+`(?:,\s`\w+`)*)\]\[([\w:]+)\]")
+CITED = re.compile(r"\[(`\w+`(?:,\s+`\w+`)*)\]\[([\w:]+)\]")
 
 
 def clauses(path):
