@@ -165,7 +165,7 @@ class Processes(Package):
         def killed(number):
             if number == 2:
                 while not (found := programs_of("ppid", os.getpid())):
-                    time.sleep(0.01)
+                    particles_of(number)  # which ends this member too if another has failed
                 end(signal.SIGKILL, found)
             return long_run(number)
 
