@@ -47,9 +47,9 @@ satisfy them.
 
 ## What the code adds
 
-Types with plain names, and what a type states of itself: a gas the number of its directions (`DIRS`), whether its collisions use the random
-bit, its lattice's least turn and mirror, rows the lattice that their words contain, an end of a belt its steps. On a belt on one thread a
-put is ready if it has room, and a take if it has a row. A belt between threads is never stated to be ready.
+Types with plain names, and what a type states of itself: a gas the number of its directions (`DIRS`) and whether its collisions use the
+random bit, rows the lattice that their words contain, an end of a belt its steps. On a belt on one thread a put is ready if it has room,
+and a take if it has a row. A belt between threads is never stated to be ready.
 """
 KIT_ADDS = """
 ## The kit's definitions
@@ -122,7 +122,7 @@ def contracts(text, kinds="requires|ensures"):
     for model in re.finditer(r"^impl(?:<[^{]*?>)? Model for (\w+)[^{]*\{", text, re.M):
         if model.group(1) not in private:
             yield from re.findall(r"ghost Value = (\{[^\n]*\});", braced(text, model.end() - 1)[0])
-    yield from re.findall(r"ghost (?:from_gives|turn|mirror) = (\{[^\n]*\});", text)
+    yield from re.findall(r"ghost from_gives = (\{[^\n]*\});", text)
     yield from clauses(text, r'^ *pub (?:extern "C" )?fn \w+', kinds)
 
 

@@ -1,6 +1,9 @@
 //! Laws of lattices and their runs, besides the number law.
 ghost use Rattle.std.specs.Prelude.{◌≡◌, ◌+◌, ◌%◌, ◌^◌, ◌<◌, ℕ, Bool, not, List, ◌+ℤ◌};
 ghost use Rattle.gas_geom.specs.Gas.{particles, momentum_of};
+ghost use Rattle.gas_geom.specs.Fhp1.{fhp1, sixth, hexagon_mirror};
+ghost use Rattle.gas_geom.specs.FhpRest.{fhp_rest};
+ghost use Rattle.gas_geom.specs.Hpp.{hpp, quarter, square_mirror};
 ghost use Rattle.gas_geom.specs.Channel.{ChannelModel};
 ghost use Rattle.gas_geom.specs.Lattice.{LatticeModel, IsLattice, cell, next, generation};
 ghost use Rattle.gas_geom.specs.Parts.{IsPartFrom, IsFarFromCuts};
@@ -20,9 +23,12 @@ pub fn a_collision_keeps<G: Gas>()
         momentum_of G.rules (G.rules.collide s chi) ≡ momentum_of G.rules s }
 {}
 
-/// What a collision has in common with its mirror images, by the gas's least turn and its mirror.
-pub fn collisions_are_symmetric<G: Gas>()
-    ensures symmetric { IsSymmetric G.rules G.turn G.mirror }
+/// What a collision has in common with its mirror images, for each gas: the least turn of the
+/// lattice is a sixth in FHP-I and fhp-rest, and a quarter in HPP.
+pub fn collisions_are_symmetric()
+    ensures fhp1 { IsSymmetric fhp1 sixth hexagon_mirror }
+    ensures fhp_rest { IsSymmetric fhp_rest sixth hexagon_mirror }
+    ensures hpp { IsSymmetric hpp quarter square_mirror }
 {}
 
 /// A part of a lattice from an even row on, with the whole's random bits: after n generations each
