@@ -14,7 +14,7 @@ sys.path.append(f"{sys.path[0]}/../lib")
 import needs
 
 ROOT = needs.ROOT
-FENCE = re.compile(r"^(```|~~~).*?^\1", re.M | re.S)
+FENCE = re.compile(r"^ *(```|~~~).*?^ *\1", re.M | re.S)
 CODE = re.compile(r"`[^`\n]*`")
 LINK = re.compile(
     r"(?m)\]\(\s*<?([^)>\s]+)>?(?:\s+\"[^\"]*\")?\s*\)|^\[[^\]]+\]:\s*(\S+)|(?:src|href)=\"([^\"]+)\""

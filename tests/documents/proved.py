@@ -34,8 +34,8 @@ def assumed(log):
     """The C functions that a log says the program's proof reached, as the page lists them."""
     crates = re.findall(r"^axioms (\w+): \d+ reached.*\n((?:  .*\n)*)", log, re.M)
     known = ((crate, re.findall(r"^  (\S+) +reached$", lines, re.M)) for crate, lines in crates)
-    named = {crate: ", ".join(name.partition("::")[2] for name in names) for crate, names in known}
-    return ", ".join(f"of `{crate}` {names}" for crate, names in named.items() if names)
+    named = {crate: " ".join(name.partition("::")[2] for name in names) for crate, names in known}
+    return " ".join(f"{crate}: {names}" for crate, names in named.items() if names)
 
 
 def complaints(page):
