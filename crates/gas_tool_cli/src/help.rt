@@ -66,7 +66,7 @@ the top, each from the left. Its columns are:
   fluid      the number of its cells that are not solid
   particles  the number of its particles
   px, py     the momentum of its particles, eastwards and northwards: in units of 1/2 and of
-             half the square root of 3 on the triangular lattice, of 1 on the square one
+             half the square root of 3 on the triangular lattice (FHP), of 1 on the square one (HPP)
 
 Example: fhpgas coarse --generations 100 --block-width 16 --block-height 16 < scene.toml",
 };
