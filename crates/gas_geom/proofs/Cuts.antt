@@ -116,6 +116,6 @@ pub generation-alike : (gas : Rules) (first : ℕ) (part whole : LatticeModel) (
     ≡ cell (generation gas whole.channel chi start whole.rows n) x (first + y)
 generation-alike gas first part whole chi start zero x y even is far = is.cells x y far.row
 generation-alike gas first part whole chi start (suc n) x y even is far =
-    next-alike gas first even part.channel whole.channel is.wide is.within is.solid n
+    next-alike gas first even part.channel whole.channel is.wide (omega (arith, is.within)) is.solid n
     (λ u v. chi (start + n) u (first + v)) (chi (start + n)) _ _ (λ _ _. refl)
     (λ u v near. generation-alike gas first part whole chi start n u v even is near) x y far

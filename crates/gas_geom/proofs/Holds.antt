@@ -7,11 +7,7 @@ use Rattle.std.specs.Int.{bit_at}
 use Rattle.std.specs.Int.Bits.{bit_and, bit_or, bit_xor}
 use Rattle.gas_geom.specs.Gas.{holds}
 use Rattle.gas_geom.specs.Lattice.{set_of}
-
--- one of two truth values, and not both
-abbrev pub differ : Bool → Bool → Bool
-differ true b = not b
-differ false b = b
+use Rattle.gas_geom.specs.Planes.{differ}
 
 -- what holds at 0 and at 1 holds at each bit
 pub bit_cases : (P : ℕ → Type 0) → P 0 → P 1 → (x : ℕ) → x < 2 → P x

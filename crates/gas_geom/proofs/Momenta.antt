@@ -51,7 +51,7 @@ abbrev weighed : (ℕ → ℕ) → (ℕ → ℕ → ℕ) → Place → ℕ
 weighed f at p = bit_at (at p.0 p.1) p.2 * f p.2
 
 module _ (gas : Rules) (m : ℕ → ℤ) where
-  abbrev part_of : ℕ → ℤ
+  abbrev pub part_of : ℕ → ℤ
   part_of s = signed_sum_by m (directions_of gas s)
 
   abbrev sum_in : List (List ℕ) → ℤ
@@ -63,7 +63,7 @@ module _ (gas : Rules) (m : ℕ → ℤ) where
   abbrev takes : ℕ → ℕ
   takes i = down (m i)
 
-  cell-is : (s : ℕ) → IsLess (part_of s) (sum_below gas.dirs (λ i. bit_at s i * adds i)) (sum_below gas.dirs (λ i. bit_at s i * takes i))
+  pub cell-is : (s : ℕ) → IsLess (part_of s) (sum_below gas.dirs (λ i. bit_at s i * adds i)) (sum_below gas.dirs (λ i. bit_at s i * takes i))
   cell-is s =
       omega (arith, signed-is m adds takes (λ i. omega arith) (directions_of gas s), sum-held gas.dirs s adds, sum-held gas.dirs s takes)
 

@@ -88,6 +88,42 @@ module _ (gas : Rules) (laws : IsGas gas) where
         ∙ set_of-same gas.dirs (arriving gas c at x y) (arriving gas c other x y) (λ i h. arriving-same at other same (x, y, i) (inx, iny, h) fluid)
         ∙ sym (ap (λ (b : Bool). if b then 0 else set_of gas.dirs (arriving gas c other x y)) fluid)
 
+    -- two lattices with the same next lattice
+    module _ (chi : ℕ → ℕ → Bool) (rows other : List (List ℕ)) (lattice : IsLattice gas c rows) (another : IsLattice gas c other)
+        (alike : next gas c chi rows ≡ next gas c chi other) where
+      abbrev collided_rows : List (List ℕ) → ℕ → ℕ → ℕ
+      collided_rows cells = collided gas c chi (cell cells)
+
+      back-alike : Same (back c (collided_rows rows)) (back c (collided_rows other))
+      back-alike x y inx iny =
+          ap (turned gas) (sym (cell-made c.width c.height (streamed gas c (collided_rows rows)) x y inx iny)
+          ∙ ap (λ (cells : List (List ℕ)). cell cells x y) alike
+          ∙ cell-made c.width c.height (streamed gas c (collided_rows other)) x y inx iny)
+
+      turned-alike : (x y : ℕ) → x < c.width → y < c.height → is_solid c x y ≡ false →
+          turned gas (collided_rows rows x y) ≡ turned gas (collided_rows other x y)
+      turned-alike x y inx iny fluid =
+          sym (streamed-back c (collided_rows rows) x y inx iny fluid)
+          ∙ streamed-same (back c (collided_rows rows)) (back c (collided_rows other)) back-alike x y inx iny fluid
+          ∙ streamed-back c (collided_rows other) x y inx iny fluid
+
+      cell-alike : (x y : ℕ) → x < c.width → y < c.height → cell rows x y ≡ cell other x y
+      cell-alike x y inx iny = by (is_solid c x y) refl
+        where
+          after : List (List ℕ) → ℕ
+          after cells = gas.collide (cell cells x y) (chi x y)
+
+          by : (b : Bool) → is_solid c x y ≡ b → cell rows x y ≡ cell other x y
+          by true e = lattice.empty x y e ∙ sym (another.empty x y e)
+          by false e =
+              laws.collide_one_to_one (cell rows x y) (cell other x y) (chi x y) (lattice.sets x y) (another.sets x y)
+              (sym (turned-twice (after rows) (laws.collide_within (cell rows x y) (chi x y) (lattice.sets x y)))
+              ∙ ap (turned gas) (sym (ap (λ (b : Bool). turned gas (if b then 0 else after rows)) e) ∙ turned-alike x y inx iny e ∙ ap (λ (b : Bool). turned gas (if b then 0 else after other)) e)
+              ∙ turned-twice (after other) (laws.collide_within (cell other x y) (chi x y) (another.sets x y)))
+
+      pub same-before : rows ≡ other
+      same-before = rows_of-cell gas c rows lattice ∙ rows_of-same c.width c.height _ _ cell-alike ∙ sym (rows_of-cell gas c other another)
+
     module _ (turn mirror : ℕ → ℕ) (symmetry : IsSymmetric gas turn mirror) (chi : Bool) where
       -- a collision, a turn and a collision under the other bit are a turn
       undone-turned : (s : ℕ) → s < 2 ^ gas.dirs → gas.collide (turned gas (gas.collide s chi)) (not chi) ≡ turned gas s

@@ -7,7 +7,9 @@ pub mod FhpRest
 pub mod Channel
 pub mod Lattice
 pub mod Planes
+pub mod Lanes
 pub mod Laws
 pub mod Parts
 pub mod Backwards
 pub mod Momentum
+pub mod Staggered

@@ -1,7 +1,16 @@
--- Bit planes: the sets of 64 cells at once, as one word for each direction.
-use Rattle.std.specs.Prelude.{◌≡◌, ℕ, ◌≤◌, List, slice_index}
+-- Bit planes: the sets of many cells at once, as one word for each direction.
+use Rattle.std.specs.Prelude.{◌≡◌, ℕ, ◌≤◌, Bool, true, false, not, List, slice_index, slice_index_or}
 use Rattle.gas_geom.specs.Gas.{holds}
 use Rattle.gas_geom.specs.Lattice.{set_of}
+
+-- one of two truth values, and not both
+abbrev pub differ : Bool → Bool → Bool
+differ true b = not b
+differ false b = b
+
+-- the set of cell c, where `bit` reads a word and `none` stands for planes that are missing: the directions whose planes hold c
+abbrev pub set_in : {W : Type 0} → (W → ℕ → Bool) → W → ℕ → List W → ℕ → ℕ
+set_in bit none dirs planes c = set_of dirs (λ i. bit (slice_index_or planes i none) c)
 
 -- the set at bit b: the directions whose planes hold b
 abbrev pub set_at : ℕ → List ℕ → ℕ → ℕ

@@ -5,6 +5,7 @@ ghost use Rattle.gas_geom.specs.Fhp1.{fhp1, sixth, hexagon_mirror};
 ghost use Rattle.gas_geom.specs.Laws.Trials.{IsGas-passed, IsSymmetric-passed, uses-chirality};
 
 use crate::gas::Gas;
+use crate::word::Word;
 
 /// The gas FHP-I of Frisch, Hasslacher and Pomeau (1986): the directions E, NE, NW, W, SW and SE
 /// (0 to 5) of the triangular lattice, two-body and three-body collisions, no particle at rest.
@@ -65,29 +66,32 @@ impl Gas for Fhp1 {
         }
     }
 
-    fn collide64(planes: [u64; 8], chi: u64) -> [u64; 8] {
+    #[inline(always)]
+    fn collide_planes<W: Word>(planes: [W; 8], chi: W) -> [W; 8] {
         let [e, ne, nw, w, sw, se, _, _] = planes;
         // An axis with one particle has the spectator of a pair; a triple has one on every axis.
-        let (one_e, one_ne, one_nw) = (e ^ w, ne ^ sw, nw ^ se);
-        let unlike = e ^ ne;
-        let triple = one_e & one_ne & one_nw & unlike & (ne ^ nw);
-        let pair = (unlike ^ nw) & !((e & ne) | one_e | one_ne | one_nw);
+        let (one_e, one_ne, one_nw) = (e.xor(w), ne.xor(sw), nw.xor(se));
+        let unlike = e.xor(ne);
+        let triple = one_e.and(one_ne).and(one_nw).and(unlike).and(ne.xor(nw));
+        let more = e.and(ne).or(one_e).or(one_ne).or(one_nw);
+        let pair = unlike.xor(nw).and(more.not());
         // A pair leaves its axis for the next one to the left or to the right.
-        let right = !chi;
-        let pair_e = pair & (e | (nw ^ right));
-        let pair_ne = pair & (ne | (e ^ right));
-        let along_e = triple | pair_e;
-        let along_ne = triple | pair_ne;
-        let along_nw = triple | (pair_e ^ pair_ne);
+        let right = chi.not();
+        let pair_e = pair.and(e.or(nw.xor(right)));
+        let pair_ne = pair.and(ne.or(e.xor(right)));
+        let along_e = triple.or(pair_e);
+        let along_ne = triple.or(pair_ne);
+        let along_nw = triple.or(pair_e.xor(pair_ne));
+        let zero = W::zero();
         [
-            e ^ along_e,
-            ne ^ along_ne,
-            nw ^ along_nw,
-            w ^ along_e,
-            sw ^ along_ne,
-            se ^ along_nw,
-            0,
-            0,
+            e.xor(along_e),
+            ne.xor(along_ne),
+            nw.xor(along_nw),
+            w.xor(along_e),
+            sw.xor(along_ne),
+            se.xor(along_nw),
+            zero,
+            zero,
         ]
     }
 

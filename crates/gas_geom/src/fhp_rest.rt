@@ -7,6 +7,7 @@ ghost use Rattle.gas_geom.specs.Laws.Trials.{IsGas-passed, IsSymmetric-passed, u
 
 use crate::fhp1::Fhp1;
 use crate::gas::Gas;
+use crate::word::Word;
 
 /// The gas fhp-rest: the directions of FHP-I, 0 to 5, and direction 6, in which a particle rests.
 /// FHP-I's collisions take place whether or not a particle rests in the cell. Besides, a moving
@@ -67,29 +68,31 @@ impl Gas for FhpRest {
         }
     }
 
-    fn collide64(planes: [u64; 8], chi: u64) -> [u64; 8] {
+    #[inline(always)]
+    fn collide_planes<W: Word>(planes: [W; 8], chi: W) -> [W; 8] {
         let [e, ne, nw, w, sw, se, rest, _] = planes;
-        let (one_e, one_ne, one_nw) = (e ^ w, ne ^ sw, nw ^ se);
+        let (one_e, one_ne, one_nw) = (e.xor(w), ne.xor(sw), nw.xor(se));
         // E, NW and SW lie at equal angles, and so do NE, W and SE.
-        let (first, second) = (e | nw | sw, ne | w | se);
+        let (first, second) = (e.or(nw).or(sw), ne.or(w).or(se));
         // A single particle beside one at rest, or two of one such triple beside none: each axis
         // that holds one loses it, and each other axis gains one of the other triple.
-        let odd = one_e ^ one_ne ^ one_nw;
-        let exchange = (first ^ second) & !((one_e & one_ne & one_nw) | (odd ^ rest));
-        let at_e = exchange & (one_e ^ second);
-        let at_ne = exchange & (one_ne ^ first);
-        let at_nw = exchange & (one_nw ^ second);
+        let odd = one_e.xor(one_ne).xor(one_nw);
+        let unlike = one_e.and(one_ne).and(one_nw).or(odd.xor(rest));
+        let exchange = first.xor(second).and(unlike.not());
+        let at_e = exchange.and(one_e.xor(second));
+        let at_ne = exchange.and(one_ne.xor(first));
+        let at_nw = exchange.and(one_nw.xor(second));
         // FHP-I leaves the cells that exchange as they are, and collides the others.
-        let [e, ne, nw, w, sw, se, _, _] = Fhp1::collide64([e, ne, nw, w, sw, se, 0, 0], chi);
+        let [e, ne, nw, w, sw, se, _, _] = Fhp1::collide_planes(planes, chi);
         [
-            e ^ at_e,
-            ne ^ at_ne,
-            nw ^ at_nw,
-            w ^ (exchange ^ at_e),
-            sw ^ (exchange ^ at_ne),
-            se ^ (exchange ^ at_nw),
-            rest ^ exchange,
-            0,
+            e.xor(at_e),
+            ne.xor(at_ne),
+            nw.xor(at_nw),
+            w.xor(exchange.xor(at_e)),
+            sw.xor(exchange.xor(at_ne)),
+            se.xor(exchange.xor(at_nw)),
+            rest.xor(exchange),
+            W::zero(),
         ]
     }
 

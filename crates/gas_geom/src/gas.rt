@@ -1,13 +1,15 @@
 //! What a lattice gas is: its directions, its collisions and its momenta, and the number law: no step
 //! makes or loses a particle.
 
-ghost use Rattle.std.specs.Prelude.{◌≡◌, ◌<◌, ◌≤◌, ◌^◌, ℕ, List, Bool, false};
+ghost use Rattle.std.specs.Prelude.{◌≡◌, ◌<◌, ◌≤◌, ◌^◌, ℕ, List, Bool, false, slice_index_or};
 ghost use Rattle.gas_geom.specs.Moves.{amount};
 ghost use Rattle.gas_geom.specs.Gas.{Rules, IsGas, holds};
 ghost use Rattle.gas_geom.specs.Channel.{ChannelModel};
 ghost use Rattle.gas_geom.specs.Lattice.{IsLattice, next, generation, count};
 ghost use Rattle.gas_geom.specs.Backwards.{IsSymmetric};
-ghost use Rattle.gas_geom.specs.Planes.{set_at, ZeroFrom};
+ghost use Rattle.gas_geom.specs.Planes.{set_in, set_at, ZeroFrom};
+
+use crate::word::Word;
 
 /// A lattice gas. A direction is a number below `DIRS`, and a cell's state is the set of the
 /// directions in which a particle moves: bit `i` stands for direction `i`.
@@ -47,14 +49,26 @@ pub trait Gas {
         requires state { state < 2 ^ rules.dirs }
         ensures value { result ≡ rules.collide state chi };
 
+    /// The states of the cells of a word after a collision. Bit `c` of plane `i` is set if cell `c`
+    /// holds a particle in direction `i`, and bit `c` of `chi` is the random bit of cell `c`. The
+    /// planes from `DIRS` on are not looked at.
+    fn collide_planes<W: Word>(planes: [W; 8], chi: W) -> [W; 8]
+        ensures cells { (c : ℕ) → c < W.cells → set_in W.bit W.none rules.dirs result c
+            ≡ rules.collide (set_in W.bit W.none rules.dirs planes c) (W.bit chi c) }
+        ensures rest { (i : ℕ) → rules.dirs ≤ i → slice_index_or result i W.none ≡ W.none };
+
     /// The states of 64 cells after a collision. Bit `b` of plane `i` is set if cell `b` holds a
     /// particle in direction `i`, and bit `b` of `chi` is the random bit of cell `b`. The planes
     /// from `DIRS` on are zero.
+    #[inline(always)]
     fn collide64(planes: [u64; 8], chi: u64) -> [u64; 8]
         requires rest { ZeroFrom rules.dirs planes }
         ensures cells { (b : ℕ) → b < 64 → set_at rules.dirs result b
             ≡ rules.collide (set_at rules.dirs planes b) (holds chi b) }
-        ensures rest { ZeroFrom rules.dirs result };
+        ensures rest { ZeroFrom rules.dirs result }
+    {
+        Self::collide_planes(planes, chi)
+    }
 
     /// The momentum of a particle in a direction, eastwards and northwards, each -2 to 2.
     fn momentum(i: u32) -> (i32, i32)

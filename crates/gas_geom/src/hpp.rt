@@ -5,6 +5,7 @@ ghost use Rattle.gas_geom.specs.Hpp.{hpp, quarter, square_mirror};
 ghost use Rattle.gas_geom.specs.Laws.Trials.{IsGas-passed, IsSymmetric-passed};
 
 use crate::gas::Gas;
+use crate::word::Word;
 
 /// The gas HPP of Hardy, Pomeau and de Pazzis (1973): the directions E, N, W and S (0 to 3) of the
 /// square lattice, head-on collisions. It ignores the random bit. Momentum is in whole units.
@@ -55,11 +56,22 @@ impl Gas for Hpp {
         }
     }
 
-    fn collide64(planes: [u64; 8], _chi: u64) -> [u64; 8] {
+    #[inline(always)]
+    fn collide_planes<W: Word>(planes: [W; 8], _chi: W) -> [W; 8] {
         let [e, n, w, s, _, _, _, _] = planes;
         // One head-on pair: both directions of an axis are alike, and the two axes differ.
-        let turns = (e ^ n) & !((e ^ w) | (n ^ s));
-        [e ^ turns, n ^ turns, w ^ turns, s ^ turns, 0, 0, 0, 0]
+        let turns = e.xor(n).and(e.xor(w).or(n.xor(s)).not());
+        let zero = W::zero();
+        [
+            e.xor(turns),
+            n.xor(turns),
+            w.xor(turns),
+            s.xor(turns),
+            zero,
+            zero,
+            zero,
+            zero,
+        ]
     }
 
     fn momentum(i: u32) -> (i32, i32) {

@@ -9,6 +9,7 @@ ghost use Rattle.gas_geom.specs.Lattice.{LatticeModel, IsLattice, cell, next, ge
 ghost use Rattle.gas_geom.specs.Parts.{IsPartFrom, IsFarFromCuts};
 ghost use Rattle.gas_geom.specs.Momentum.{momentum_in, sent_back, is_wall, is_obstacle};
 ghost use Rattle.gas_geom.specs.Backwards.{IsSymmetric, reversed};
+ghost use Rattle.gas_geom.specs.Staggered.{IsKept, horizontal, rising, falling};
 
 use crate::gas::Gas;
 
@@ -52,6 +53,13 @@ pub fn a_run_leads_back<G: Gas>()
         ≡ rows }
 {}
 
+/// A generation is one-to-one for any random bits: two lattices with the same next lattice are equal.
+pub fn a_generation_is_one_to_one<G: Gas>()
+    ensures lattice { (channel : ChannelModel) (chi : ℕ → ℕ → Bool) (rows other : List (List ℕ)) →
+        IsLattice G.rules channel rows → IsLattice G.rules channel other →
+        next G.rules channel chi rows ≡ next G.rules channel chi other → rows ≡ other }
+{}
+
 /// The momentum of the next lattice is the lattice's, and twice that of the particles that the wall
 /// and solid cells sent back: each came with the opposite of the momentum with which it leaves.
 pub fn momentum_law<G: Gas>()
@@ -67,4 +75,19 @@ pub fn momentum_law<G: Gas>()
         let obstacles = (momentum_in G.rules (sent_back G.rules channel is_obstacle later)).1 in
         (momentum_in G.rules later).1 ≡ (momentum_in G.rules rows).1
         +ℤ (walls +ℤ walls) +ℤ (obstacles +ℤ obstacles) }
+{}
+
+/// The staggered momenta of FHP-I and fhp-rest never change, with walls and obstacles: that of the
+/// rows in any channel, and those of the slanted lines in channels of an even width.
+pub fn staggered_momenta_are_kept()
+    ensures fhp1_rows { (channel : ChannelModel) → IsKept fhp1 horizontal channel }
+    ensures fhp1_rising { (channel : ChannelModel) → channel.width % 2 ≡ 0 →
+        IsKept fhp1 rising channel }
+    ensures fhp1_falling { (channel : ChannelModel) → channel.width % 2 ≡ 0 →
+        IsKept fhp1 falling channel }
+    ensures fhp_rest_rows { (channel : ChannelModel) → IsKept fhp_rest horizontal channel }
+    ensures fhp_rest_rising { (channel : ChannelModel) → channel.width % 2 ≡ 0 →
+        IsKept fhp_rest rising channel }
+    ensures fhp_rest_falling { (channel : ChannelModel) → channel.width % 2 ≡ 0 →
+        IsKept fhp_rest falling channel }
 {}

@@ -1,0 +1,13 @@
+use Rattle.std.proofs.Common.{◌∙◌, ◌%◌, ◌/◌, ap, arith}
+use Rattle.std.specs.Int.Bits.{bit_xor}
+use Rattle.std.proofs.lemmas.Simd.{get_or-zip2}
+use Rattle.gas_geom.specs.Gas.{holds}
+use Rattle.gas_geom.proofs.Holds.{holds-xor}
+use Rattle.gas_geom.proofs.word.U64x4Word.xor.Goals as goal
+
+pub returns : goal.returns
+returns c = record {
+  bits = λ b lt.
+      ap (λ w. holds w (b % 64)) (get_or-zip2 bit_xor c.args.self c.args.other (b / 64) 0 0 0 (omega (arith, c.fits-self.0)) (omega (arith, c.fits-other.0)))
+      ∙ holds-xor _ _ (b % 64);
+}
