@@ -68,8 +68,8 @@ impl<G: Gas> Rx<G> {
     }
 
     /// Takes the oldest row on the belt, into one of the spare rows. None if not all of its words
-    /// have come, no spare row is held, or 2^64 - 1 rows were taken. It takes no memory and never
-    /// waits.
+    /// have come, no spare row is held, or 2^64 - 1 rows were taken. It never waits. That it takes no
+    /// memory is tested.
     #[inline(always)]
     #[tactic(auto, using(crate::proofs::Parts::parts_length, crate::proofs::Parts::parts_row))]
     pub fn try_take(&mut self) -> Option<Row<G>>
@@ -97,7 +97,7 @@ impl<G: Gas> Rx<G> {
     }
 
     /// Keeps the row as a spare row, into which a later row may be taken. It is dropped if two are
-    /// held, or if its width is not the belt's. It takes no memory and never waits.
+    /// held, or if its width is not the belt's. It never waits. That it takes no memory is tested.
     pub fn give(&mut self, row: Row<G>)
         ensures kept { length row ≡ self.old.belt.width →
             self.new ≡ record self.old { held = min 2 (self.old.held + 1) } }

@@ -79,8 +79,8 @@ impl<G: Gas> Tx<G> {
     }
 
     /// Puts a row, or hands it back if the belt has no place for it, its width is not the belt's,
-    /// or 2^64 - 1 rows were put. A row that was put becomes the spare row. It takes no memory and
-    /// never waits.
+    /// or 2^64 - 1 rows were put. A row that was put becomes the spare row. It never waits. That it
+    /// takes no memory is tested.
     #[inline(always)]
     #[tactic(auto, using(crate::proofs::Parts::parts_length, crate::proofs::Parts::parts_row))]
     pub fn try_put(&mut self, row: Row<G>) -> Result<(), Row<G>>

@@ -1,6 +1,6 @@
 -- One bit of a word as a truth value, through shifts, masks and writes of one bit.
 use Rattle.std.proofs.Common.{◌≡◌, ℕ, ◌+◌, ◌-◌, ◌*◌, ◌/◌, ◌%◌, ◌^◌, ◌<◌, ◌≤◌, true, false, ◌&&◌, ◌||◌, ◌==◌, if◌then◌else◌, ap₂, sym, ap, ◌∙◌, arith, w64, cond, inl, inr, leb}
-use mathlib.Core.Bool.{and_comm, or-false}
+use mathlib.Core.Bool.{and_comm}
 use Rattle.std.specs.Prelude.{nat_lt}
 use Rattle.std.proofs.lemmas.Nat.Bits.{shr_and_one, bit_at_set_same, bit_at_set_other, bit_at_clear_same, bit_at_clear_other, bit_at_ones, bit_at_ones_above, bit_at_cat_low, bit_at_cat_high, ones_shr}
 use lib.Bits.{bit_and, bit_or}
@@ -65,17 +65,6 @@ holds-up_to y last b h =
       | inl le ↦ holds-ones (last + 1) b (omega arith) ∙ sym (grind (arith, nat_tests))
       | inr lt ↦ holds-ones_above (last + 1) b (omega arith) ∙ sym (grind (arith, nat_tests))
     ])
-
--- `low | high << 32`
-pub holds-joined : (low high b : ℕ) → low < 2 ^ 32 → b < 64 →
-    holds (bit_or low (high * 2 ^ 32 % 2 ^ 64)) b ≡ (if nat_lt b 32 then holds low b else holds high (b - 32))
-holds-joined low high b h lt =
-    holds-or low (high * 2 ^ 32 % 2 ^ 64) b ∙ elim (cases_lt b 32) [
-      | inl below ↦ ap (λ q. holds low b || q) (holds-shl_low 32 b high below lt) ∙ or-false (holds low b)
-          ∙ sym (ap (λ t. if t then holds low b else holds high (b - 32)) (lt-ltb b 32 below))
-      | inr above ↦ ap₂ (λ p q. p || q) (holds-above low 32 b h above) (holds-shl_high 32 b high above lt)
-          ∙ sym (ap (λ t. if t then holds low b else holds high (b - 32)) (le-ltb b 32 above))
-    ]
 
 -- what the operations on one word make of its bits
 pub ruleset word_bits = (nat_tests, holds-set, holds-clear, holds-shr_and, holds-up_to, holds-and, holds-not)

@@ -1,6 +1,7 @@
 pub mod Bits
 pub mod Cells
 pub mod Counting
+pub mod Fours
 pub mod Lanes
 pub mod Ones
 pub mod PlaneWrites

@@ -1,12 +1,15 @@
 -- What the sets of cells are, after words of their directions were written.
-use Rattle.std.proofs.Common.{◌≡◌, ℕ, ◌+◌, ◌*◌, ◌/◌, ◌%◌, ◌<◌, Bool, true, false, not, ◌&&◌, if◌then◌else◌, List, get_or, sym, ap, ap₂, ◌∙◌, arith}
+use Rattle.std.proofs.Common.{◌≡◌, ℕ, ◌+◌, ◌-◌, ◌*◌, ◌/◌, ◌%◌, ◌<◌, ◌≤◌, Bool, true, false, not, ◌&&◌, if◌then◌else◌, List, get_or, replicate, sym, ap, ◌∙◌, arith}
 use mathlib.Core.Bool.{and-false, and-true}
 use Rattle.std.proofs.lemmas.Nat.{pow_pos}
 use Rattle.gas_geom.specs.Gas.{holds}
-use Rattle.gas_geom.specs.Planes.{set_at}
+use Rattle.gas_geom.specs.Lanes.{lanes_hold}
+use Rattle.gas_geom.specs.Planes.{set_in}
 use Rattle.gas_geom.proofs.Holds.{holds-zero, set_of-same}
 use Rattle.gas_bits.specs.Words.{bit}
-use Rattle.gas_bits.specs.Planes.{has, state}
+use Rattle.gas_bits.specs.Planes.{has, state, four_has}
+use Rattle.gas_bits.proofs.Cells.{state-same}
+use Rattle.gas_bits.proofs.Words.{bit-at, bit-zeros}
 use Rattle.gas_geom.specs.Lattice.{set_of}
 use Rattle.gas_geom.proofs.Sets.{set_from}
 
@@ -18,24 +21,21 @@ state-masked words n d y f true each =
     set_from d 0 (λ i. has words n i y) (pow_pos d) (λ i h. each i h ∙ and-false (f i) ∙ sym (holds-zero i))
 state-masked words n d y f false each = set_of-same d (λ i. has words n i y) f (λ i h. each i h ∙ and-true (f i))
 
--- 64 cells collided: those of a word that was gathered, collided and written
-module _ (table : ℕ → Bool → ℕ) (words new : List ℕ) (n j d dirs : ℕ) (planes after : List ℕ) (chi solid : List ℕ) (ed : dirs ≡ d)
-    (gathered : (i : ℕ) → i < dirs → get_or planes i 0 ≡ get_or words (i * n + j) 0)
-    (collided : (b : ℕ) → b < 64 → set_at d after b ≡ table (set_at d planes b) (holds (get_or chi j 0) b))
-    (here : (i y : ℕ) → i < dirs → y / 64 ≡ j →
-    has new n i y ≡ (holds (get_or after i 0) (y % 64) && not (holds (get_or solid j 0) (y % 64)))) where
-  -- the cells before, as the gathered planes hold them
-  before-is : (y : ℕ) → y / 64 ≡ j → state words n d y ≡ set_at d planes (y % 64)
-  unfolding state has
-  before-is y e =
-      set_of-same d (λ i. has words n i y) (λ i. holds (get_or planes i 0) (y % 64)) (λ i hi.
-      ap (λ k. holds (get_or words (i * n + k) 0) (y % 64)) e
-      ∙ ap (λ w. holds w (y % 64)) (sym (gathered i (omega arith))))
+-- the set of a cell after four words of each direction were written, from cell `start` on
+pub four-written : (new old : List ℕ) (n d y start : ℕ) (planes : List (List ℕ)) (solid inside : Bool)
+    → ((i : ℕ) → i < d → has new n i y ≡ (if inside then four_has planes i (y - start) && not solid else has old n i y))
+    → state new n d y ≡ (if inside then (if solid then 0 else set_in lanes_hold (replicate 4 0) d planes (y - start)) else state old n d y)
+four-written new old n d y start planes solid true each = state-masked new n d y (λ i. four_has planes i (y - start)) solid each
+four-written new old n d y start planes solid false each = state-same new old n d y each
 
-  pub word-collided : (y : ℕ) → y / 64 ≡ j →
-      state new n d y ≡ (if bit solid y then 0 else table (state words n d y) (bit chi y))
-  unfolding bit
-  word-collided y e =
-      state-masked new n d y (λ i. holds (get_or after i 0) (y % 64)) (holds (get_or solid j 0) (y % 64)) (λ i hi. here i y (omega arith) e)
-      ∙ ap₂ (λ (s : Bool) t. if s then 0 else t) (ap (λ k. holds (get_or solid k 0) (y % 64)) (sym e))
-      (collided (y % 64) (omega arith) ∙ ap₂ table (sym (before-is y e)) (ap (λ k. holds (get_or chi k 0) (y % 64)) (sym e)))
+-- bit b of lane l of four words, as that of a cell
+pub lane-bit : (four words : List ℕ) (j x : ℕ) → 64 * j ≤ x → ((l : ℕ) → l < 4 → get_or four l 0 ≡ get_or words (j + l) 0) → x < 64 * j + 256
+    → lanes_hold four (x - 64 * j) ≡ bit words x
+lane-bit four words j x from read to =
+    let cell = x - 64 * j in
+    let place : 64 * (j + cell / 64) + cell % 64 ≡ x = omega (arith, from) in
+    ap (λ w. holds w (cell % 64)) (read (cell / 64) (omega (arith, to, from))) ∙ sym (bit-at words (j + cell / 64) (cell % 64) (omega arith)) ∙ ap (bit words) place
+
+-- where no bit is set
+pub lane-none : (l b : ℕ) → b < 64 → holds (get_or (replicate 4 0) l 0) b ≡ false
+lane-none l b h = sym (bit-at (replicate 4 0) l b h) ∙ bit-zeros 4 (64 * l + b)

@@ -1,11 +1,12 @@
 -- What the words of a plane say of its cells, before and after writes of words.
-use Rattle.std.proofs.Common.{◌≡◌, ◌≢◌, ℕ, ◌+◌, ◌*◌, ◌/◌, ◌%◌, ◌<◌, ◌≤◌, Bool, false, ◌&&◌, if◌then◌else◌, List, length, get_or, set, length-set, replicate, refl, arith}
+use Rattle.std.proofs.Common.{◌≡◌, ◌≢◌, ℕ, ◌+◌, ◌*◌, ◌/◌, ◌%◌, ◌<◌, ◌≤◌, Bool, false, ◌&&◌, ◌||◌, if◌then◌else◌, List, length, get_or, set, length-set, replicate, refl, sym, ap, ◌∙◌, arith, bit_or}
+use Rattle.std.proofs.lemmas.Nat.Bits.{bit_at-lt, bit_at-zero, same_from_bits}
 use Rattle.std.specs.Prelude.{◌==◌, nat_lt}
 use Rattle.std.specs.List.{All}
 use Rattle.std.proofs.lemmas.List.Elements.{All-get_or}
 use Rattle.std.proofs.lemmas.Bool.Decides.{nat_tests}
 use Rattle.gas_geom.specs.Gas.{holds}
-use Rattle.gas_geom.proofs.Holds.{holds-zero}
+use Rattle.gas_geom.proofs.Holds.{holds-zero, holds-or}
 use Rattle.gas_bits.specs.Words.{bit}
 use Rattle.std.proofs.lemmas.List.{places}
 use Rattle.std.proofs.lemmas.Grind.{get_or-set_at}
@@ -55,3 +56,14 @@ cut-where x width a b same = grind (arith, nat_tests)
 -- where all words are zero, no bit is set
 pub bit-all_zero : (words : List ℕ) → All (λ w. w ≡ 0) words → (x : ℕ) → bit words x ≡ false
 bit-all_zero words zero x = grind (arith, bit-is, bit-past, All-get_or, holds-zero)
+
+-- a number without a bit is 0
+zero-from : (s : ℕ) → ((i : ℕ) → holds s i ≡ false) → s ≡ 0
+zero-from s none =
+    same_from_bits s 0 (λ i. let e = none i in let small = bit_at-lt s i in let z = bit_at-zero i in grind (arith, nat_tests))
+
+-- two words of which neither has a bit
+pub or-zero : (a b : ℕ) → bit_or a b ≡ 0 → (a ≡ 0) × (b ≡ 0)
+or-zero a b e =
+    let neither : (i : ℕ) → (holds a i || holds b i) ≡ false = λ i. sym (holds-or a b i) ∙ ap (λ w. holds w i) e ∙ holds-zero i in
+    (zero-from a (λ i. let n = neither i in grind arith), zero-from b (λ i. let n = neither i in grind arith))

@@ -1,7 +1,8 @@
 -- The streaming of one direction of a row.
-use Rattle.std.specs.Prelude.{ℕ, Bool, false, if◌then◌else◌}
+use Rattle.std.specs.Prelude.{◌≡◌, ℕ, ◌+◌, ◌*◌, ◌<◌, Bool, false, if◌then◌else◌, List, slice_index}
 use Rattle.gas_geom.specs.declared.moves.Move.{Move}
 use Rattle.gas_geom.specs.Moves.{column_after}
+use Rattle.gas_geom.specs.Gas.{holds}
 use Rattle.gas_bits.specs.Words.{bit}
 use Rattle.gas_bits.specs.declared.plane.Incoming.{Incoming}
 
@@ -12,3 +13,8 @@ streamed_cell incoming m x =
     if bit incoming.solid_here.now x then false
     else if bit incoming.solid_there.now neighbour then bit incoming.opposite_here.now x
     else bit incoming.plane.now neighbour
+
+-- the four words from word j on are those of the streamed row, as far as it has cells
+abbrev pub AreStreamed : Incoming → Move → ℕ → List ℕ → Type 0
+AreStreamed q m j four =
+    (l b : ℕ) → l < 4 → b < 64 → 64 * (j + l) + b < q.width → holds (slice_index four l) b ≡ streamed_cell q m (64 * (j + l) + b)

@@ -38,7 +38,11 @@ pub struct Incoming<'a> {
 pub fn are_zero(words: &[u64]) -> bool
     ensures zero { IsTrue result → All (λ w. w ≡ 0) words.now }
 {
-    words.iter().all(|word| *word == 0)
+    let mut any = 0;
+    for word in words {
+        any |= *word;
+    }
+    any == 0
 }
 
 /// Sets the bits of all cells to one value, and clears those past the width.

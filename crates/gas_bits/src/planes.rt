@@ -1,13 +1,15 @@
 //! The planes of a row, one for each direction: the words of direction `i` are those from
 //! `i * words_each` to `i * words_each + words_each - 1`.
-ghost use Rattle.std.specs.Prelude.{◌≡◌, ◌+◌, ◌*◌, ◌/◌, ◌<◌, ◌≤◌, ◌==◌, ◌&&◌, ◌⊎◌, ℕ, ◌%◌, not, nat_lt, if◌then◌else◌, length, slice_index};
+ghost use Rattle.std.specs.Prelude.{◌≡◌, ◌+◌, ◌-◌, ◌*◌, ◌/◌, ◌<◌, ◌≤◌, ◌==◌, ◌&&◌, ℕ, ◌%◌, max, not, nat_le, nat_lt, if◌then◌else◌, length, slice_index};
 ghost use Rattle.gas_geom.specs.Gas.{holds};
 ghost use Rattle.gas_geom.specs.Planes.{ZeroFrom};
 ghost use Rattle.gas_bits.specs.Words.{words_in, bit};
-ghost use Rattle.gas_bits.specs.Planes.{has, state};
+ghost use Rattle.gas_bits.specs.Planes.{has, state, four_has};
 
 use crate::states::{planes_of, state_at};
+use crate::stream::four_at;
 use crate::word::{clear_above, clear_bits, has_bit, with_bit, words_for};
+use std::simd::prelude::*;
 
 /// The set of the directions that cell `x` holds.
 #[inline(always)]
@@ -80,44 +82,75 @@ pub fn write_planes_at(
     }
 }
 
-/// Writes words `j` to `j + 3` of each direction, with zeros at solid cells. The four words of a
-/// direction are written one after another, so that a compiler can write them at once.
+// Writes words `j` to `j + 3` of one of the directions, as far as it has them.
+#[inline(always)]
+fn put_four(words: &mut [u64], n: usize, j: usize, four: u64x4)
+    requires long { length words.old ≡ n }
+    requires within { j + 4 ≤ max 4 n }
+    ensures { (k : ℕ) → k < n → slice_index words.new k
+        ≡ (if nat_le j k && nat_lt k (j + 4) then slice_index four (k - j) else slice_index words.old k) }
+{
+    if n < 4 {
+        let lanes = four.to_array();
+        for l in 0..n {
+            words[l] = lanes[l];
+        }
+    } else {
+        four.copy_to_slice(&mut words[j..j + 4]);
+    }
+}
+
+// The bits of four words that the mask has not.
+#[inline(always)]
+fn clear_four(four: u64x4, mask: u64x4) -> u64x4
+    ensures { (l b : ℕ) → l < 4 → b < 64 → holds (slice_index result l) b
+        ≡ (holds (slice_index four l) b && not (holds (slice_index mask l) b)) }
+{
+    four & !mask
+}
+
+/// Words `j` to `j + 3` of each direction, and zeros for the directions from `dirs` on and past the end
+/// of a row of fewer than four words.
+#[inline(always)]
+pub fn four_planes_at(words: &[u64], words_each: usize, dirs: usize, j: usize) -> [u64x4; 8]
+    requires few_words { words_each ≤ words_in 65536 }
+    requires few_dirs { dirs ≤ 8 }
+    requires long { length words.now ≡ dirs * words_each }
+    requires within { j + 4 ≤ max 4 words_each }
+    ensures planes { (i c : ℕ) → i < dirs → c < 256 → 64 * j + c < 64 * words_each →
+        four_has result i c ≡ has words.now words_each i (64 * j + c) }
+{
+    let mut planes = [u64x4::splat(0); 8];
+    for i in 0..dirs {
+        let start = i * words_each;
+        planes[i] = four_at(&words[start..start + words_each], words_each, j);
+    }
+    planes
+}
+
+/// Writes words `j` to `j + 3` of each direction, as far as it has them, with zeros at solid cells.
 #[inline(always)]
 pub fn write_four_at(
     words: &mut [u64],
     words_each: usize,
     dirs: usize,
     j: usize,
-    first: [u64; 8],
-    second: [u64; 8],
-    third: [u64; 8],
-    fourth: [u64; 8],
-    solid: [u64; 4],
+    planes: [u64x4; 8],
+    solid: u64x4,
 )
     requires few_words { words_each ≤ words_in 65536 }
     requires few_dirs { dirs ≤ 8 }
     requires long { length words.old ≡ dirs * words_each }
-    requires within { j + 3 < words_each }
-    ensures first { (i y : ℕ) → i < dirs → y / 64 ≡ j → has words.new words_each i y
-        ≡ (holds (slice_index first i) (y % 64) && not (holds (slice_index solid 0) (y % 64))) }
-    ensures second { (i y : ℕ) → i < dirs → y / 64 ≡ j + 1 → has words.new words_each i y
-        ≡ (holds (slice_index second i) (y % 64) && not (holds (slice_index solid 1) (y % 64))) }
-    ensures third { (i y : ℕ) → i < dirs → y / 64 ≡ j + 2 → has words.new words_each i y
-        ≡ (holds (slice_index third i) (y % 64) && not (holds (slice_index solid 2) (y % 64))) }
-    ensures fourth { (i y : ℕ) → i < dirs → y / 64 ≡ j + 3 → has words.new words_each i y
-        ≡ (holds (slice_index fourth i) (y % 64) && not (holds (slice_index solid 3) (y % 64))) }
-    ensures others { (i y : ℕ) → y / 64 < words_each → (y / 64 < j) ⊎ (j + 4 ≤ y / 64) →
-        has words.new words_each i y ≡ has words.old words_each i y }
+    requires within { j + 4 ≤ max 4 words_each }
+    ensures written { (i y : ℕ) → i < dirs → y / 64 < words_each → has words.new words_each i y
+        ≡ (if nat_le (64 * j) y && nat_lt y (64 * j + 256)
+        then four_has planes i (y - 64 * j) && not (holds (slice_index solid ((y - 64 * j) / 64)) (y % 64))
+        else has words.old words_each i y) }
 {
     for i in 0..dirs {
-        let own = clear_bits(first[i], solid[0]);
-        let next = clear_bits(second[i], solid[1]);
-        let after_next = clear_bits(third[i], solid[2]);
-        let last = clear_bits(fourth[i], solid[3]);
-        words[i * words_each + j] = own;
-        words[i * words_each + (j + 1)] = next;
-        words[i * words_each + (j + 2)] = after_next;
-        words[i * words_each + (j + 3)] = last;
+        let start = i * words_each;
+        let four = clear_four(planes[i], solid);
+        put_four(&mut words[start..start + words_each], words_each, j, four);
     }
 }
 

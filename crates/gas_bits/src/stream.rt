@@ -1,46 +1,124 @@
-//! The streaming of one direction into the words of a row.
-ghost use Rattle.std.specs.Prelude.{◌≡◌, ◌≢◌, ◌/◌, ℕ, ◌-◌, ◌+◌, ◌*◌, ◌<◌, ◌≤◌, false, length};
+//! The streaming of one direction of a row, four words at a time.
+ghost use Rattle.std.specs.Prelude.{◌≡◌, ℕ, ◌+◌, ◌-◌, ◌*◌, ◌<◌, ◌≤◌, ◌==◌, if◌then◌else◌, max, IsTrue, not, false, length, slice_index};
 ghost use Rattle.gas_geom.specs.declared.moves.Move.{Move};
 ghost use Rattle.gas_geom.specs.declared.moves.Move.TheVariants.{Back, Stay, On};
-ghost use Rattle.gas_bits.specs.Words.{words_in};
-ghost use Rattle.gas_bits.specs.Planes.{has};
-ghost use Rattle.gas_bits.specs.Shift.{streamed_cell};
-ghost use Rattle.gas_bits.specs.Inner.Streamed.{AreBeside, IsStreamedWord, AreStreamed};
+ghost use Rattle.gas_geom.specs.Moves.{column_after};
+ghost use Rattle.gas_geom.specs.Gas.{holds};
+ghost use Rattle.gas_bits.specs.Words.{words_in, bit};
+ghost use Rattle.gas_bits.specs.Shift.{AreStreamed};
+ghost use Rattle.gas_bits.specs.Inner.Streamed.{AreBeside, AreFourBeside};
 
-use crate::plane::{Incoming, clear_past};
-use crate::word::{from_east, from_west, with_last_bit_on_top, words_for};
+use crate::plane::Incoming;
+use crate::word::{from_east, with_last_bit_on_top, words_for};
 use gas_geom::moves::Move;
+use std::simd::prelude::*;
 
-// The western neighbours of the cells of word `j`, which is not the first.
+// Word `j` of a row, or 0 past its end.
 #[inline(always)]
-fn west_of(words: &[u64], j: usize) -> u64
-    requires after_first { 1 ≤ j }
-    requires within { j < length words.now }
-    ensures { (width : ℕ) → length words.now ≡ words_in width →
-        AreBeside words.now width Back j result }
+fn word_or_zero(words: &[u64], j: usize) -> u64
+    ensures { result ≡ slice_index words.now j }
 {
-    from_west(words[j - 1], words[j])
+    if j < words.len() { words[j] } else { 0 }
 }
 
-// The western neighbours of the cells of the first word.
+/// Words `j` to `j + 3` of a row of `n` words, with zeros past its end. Only a row of fewer than four
+/// words is read past its end.
 #[inline(always)]
-fn west_of_first(words: &[u64], width: u32) -> u64
+pub fn four_at(words: &[u64], n: usize, j: usize) -> u64x4
+    requires long { length words.now ≡ n }
+    requires within { j + 4 ≤ max 4 n }
+    ensures words { (l : ℕ) → l < 4 → slice_index result l ≡ slice_index words.now (j + l) }
+{
+    if n < 4 {
+        u64x4::from_array([
+            word_or_zero(words, 0),
+            word_or_zero(words, 1),
+            word_or_zero(words, 2),
+            0,
+        ])
+    } else {
+        u64x4::from_slice(&words[j..j + 4])
+    }
+}
+
+// The western neighbours of the cells of four words. That of the first cell of each is bit 63 of the
+// word in `before`.
+#[inline(always)]
+fn four_from_west(before: u64x4, here: u64x4) -> u64x4
+    ensures { (l : ℕ) → l < 4 → (b : ℕ) → b < 64 → holds (slice_index result l) b
+        ≡ (if b == 0 then holds (slice_index before l) 63 else holds (slice_index here l) (b - 1)) }
+{
+    (here << u64x4::splat(1)) | (before >> u64x4::splat(63))
+}
+
+// The eastern neighbours of the cells of four words. That of the last cell of each is bit 0 of the
+// word in `after`.
+#[inline(always)]
+fn four_from_east(here: u64x4, after: u64x4) -> u64x4
+    ensures { (l : ℕ) → l < 4 → (b : ℕ) → b ≤ 63 → holds (slice_index result l) b
+        ≡ (if b == 63 then holds (slice_index after l) 0 else holds (slice_index here l) (b + 1)) }
+{
+    (here >> u64x4::splat(1)) | (after << u64x4::splat(63))
+}
+
+// The words before words `j` to `j + 3`. Before the first word stands the last one, with the row's
+// last bit on top.
+#[inline(always)]
+fn four_before(words: &[u64], width: u32, j: usize, first: bool) -> u64x4
     requires some_cells { 1 ≤ width }
+    requires few_cells { width ≤ 65536 }
     requires long { length words.now ≡ words_in width }
-    ensures { AreBeside words.now width Back 0 result }
+    requires within { j + 4 ≤ max 4 (words_in width) }
+    requires first { IsTrue first → j ≡ 0 }
+    requires after_first { IsTrue (not first) → 1 ≤ j }
+    ensures { (l : ℕ) → l < 4 → 64 * (j + l) < width → holds (slice_index result l) 63
+        ≡ bit words.now (column_after width (64 * (j + l)) Back) }
 {
-    let last = words[words.len() - 1];
-    from_west(with_last_bit_on_top(last, (width - 1) % 64), words[0])
+    let n = words_for(width);
+    if !first {
+        return four_at(words, n, j - 1);
+    }
+    let [one, two, three, _] = four_at(words, n, 0).to_array();
+    let last = with_last_bit_on_top(words[n - 1], (width - 1) % 64);
+    u64x4::from_array([last, one, two, three])
 }
 
-// The eastern neighbours of the cells of word `j`, which is not the last.
+// The western neighbours of the cells of words `j` to `j + 3`.
 #[inline(always)]
-fn east_of(words: &[u64], j: usize) -> u64
-    requires before_last { j + 1 < length words.now }
-    ensures { (width : ℕ) → length words.now ≡ words_in width →
-        AreBeside words.now width On j result }
+fn west_of(words: &[u64], width: u32, j: usize, first: bool) -> u64x4
+    requires some_cells { 1 ≤ width }
+    requires few_cells { width ≤ 65536 }
+    requires long { length words.now ≡ words_in width }
+    requires within { j + 4 ≤ max 4 (words_in width) }
+    requires first { IsTrue first → j ≡ 0 }
+    requires after_first { IsTrue (not first) → 1 ≤ j }
+    ensures { AreFourBeside words.now width Back j result }
 {
-    from_east(words[j], 63, words[j + 1])
+    let here = four_at(words, words_for(width), j);
+    four_from_west(four_before(words, width, j, first), here)
+}
+
+// The eastern neighbours of the cells of words `j` to `j + 3`.
+#[inline(always)]
+fn east_of(words: &[u64], width: u32, j: usize, last: bool) -> u64x4
+    requires some_cells { 1 ≤ width }
+    requires few_cells { width ≤ 65536 }
+    requires long { length words.now ≡ words_in width }
+    requires within { j + 4 ≤ max 4 (words_in width) }
+    requires last { IsTrue last → words_in width ≤ j + 4 }
+    requires before_last { IsTrue (not last) → j + 4 < words_in width }
+    ensures { AreFourBeside words.now width On j result }
+{
+    let n = words_for(width);
+    let here = four_at(words, n, j);
+    if !last {
+        return four_from_east(here, four_at(words, n, j + 1));
+    }
+    let [_, two, three, four] = here.to_array();
+    let after = u64x4::from_array([two, three, four, 0]);
+    let mut beside = four_from_east(here, after).to_array();
+    beside[n - 1 - j] = east_of_last(words, width);
+    u64x4::from_array(beside)
 }
 
 // The eastern neighbours of the cells of the last word.
@@ -53,266 +131,66 @@ fn east_of_last(words: &[u64], width: u32) -> u64
     from_east(words[words.len() - 1], (width - 1) % 64, words[0])
 }
 
-// What the cells of word `j` hold after streaming: what arrives, but the opposite direction if the
-// cell that it would come from is solid (`blocked`: bounce-back), and nothing at solid cells.
+// The neighbours of the cells of words `j` to `j + 3` to which a move leads.
 #[inline(always)]
-fn stream_word<'a>(incoming: &Incoming<'a>, j: usize, arriving: u64, blocked: u64) -> u64
-    requires within { 64 * j < incoming.now.width }
-    ensures { (m : Move) → AreBeside incoming.now.plane.now incoming.now.width m j arriving →
-        AreBeside incoming.now.solid_there.now incoming.now.width m j blocked →
-        IsStreamedWord incoming.now m j result }
+fn four_beside(along: Move, words: &[u64], width: u32, j: usize, first: bool, last: bool) -> u64x4
+    requires some_cells { 1 ≤ width }
+    requires few_cells { width ≤ 65536 }
+    requires long { length words.now ≡ words_in width }
+    requires within { j + 4 ≤ max 4 (words_in width) }
+    requires first { IsTrue first → j ≡ 0 }
+    requires after_first { IsTrue (not first) → 1 ≤ j }
+    requires last { IsTrue last → words_in width ≤ j + 4 }
+    requires before_last { IsTrue (not last) → j + 4 < words_in width }
+    ensures { AreFourBeside words.now width along j result }
 {
+    match along {
+        Move::Back => west_of(words, width, j, first),
+        Move::Stay => four_at(words, words_for(width), j),
+        Move::On => east_of(words, width, j, last),
+    }
+}
+
+// What cells hold after streaming: what arrives, but the opposite direction if the cell that it would
+// come from is solid (`blocked`: bounce-back), and nothing at solid cells.
+#[inline(always)]
+fn bounce(arriving: u64x4, blocked: u64x4, opposite: u64x4, solid: u64x4) -> u64x4
+    ensures { (l b : ℕ) → l < 4 → b < 64 → holds (slice_index result l) b
+        ≡ (if holds (slice_index solid l) b then false
+        else if holds (slice_index blocked l) b then holds (slice_index opposite l) b
+        else holds (slice_index arriving l) b) }
+{
+    ((arriving & !blocked) | (blocked & opposite)) & !solid
+}
+
+/// Words `j` to `j + 3` of a direction after streaming. The move leads along the row to where the
+/// particles come from. `first` and `last` say whether they are the row's first and last words. Bits past the width are left open.
+#[inline(always)]
+pub fn stream_four<'a>(
+    along: Move,
+    incoming: &Incoming<'a>,
+    j: usize,
+    first: bool,
+    last: bool,
+) -> u64x4
+    requires within { j + 4 ≤ max 4 (words_in incoming.now.width) }
+    requires first { IsTrue first → j ≡ 0 }
+    requires after_first { IsTrue (not first) → 1 ≤ j }
+    requires last { IsTrue last → words_in incoming.now.width ≤ j + 4 }
+    requires before_last { IsTrue (not last) → j + 4 < words_in incoming.now.width }
+    ensures streamed { AreStreamed incoming.now along j result }
+{
+    let arriving = four_beside(along, incoming.plane, incoming.width, j, first, last);
     if incoming.all_fluid {
         return arriving;
     }
-    ((arriving & !blocked) | (blocked & incoming.opposite_here[j])) & !incoming.solid_here[j]
-}
-
-// Word `j` after streaming from the west. It is not the first.
-#[inline(always)]
-fn word_from_west<'a>(incoming: &Incoming<'a>, j: usize) -> u64
-    requires after_first { 1 ≤ j }
-    requires within { j < words_in incoming.now.width }
-    ensures { IsStreamedWord incoming.now Back j result }
-{
-    let arriving = west_of(incoming.plane, j);
-    let blocked = west_of(incoming.solid_there, j);
-    stream_word(incoming, j, arriving, blocked)
-}
-
-// Word `j` after streaming from the east. It is not the last.
-#[inline(always)]
-fn word_from_east<'a>(incoming: &Incoming<'a>, j: usize) -> u64
-    requires before_last { j + 1 < words_in incoming.now.width }
-    ensures { IsStreamedWord incoming.now On j result }
-{
-    let arriving = east_of(incoming.plane, j);
-    let blocked = east_of(incoming.solid_there, j);
-    stream_word(incoming, j, arriving, blocked)
-}
-
-// The first word after streaming from the west.
-#[inline(always)]
-fn first_from_west<'a>(incoming: &Incoming<'a>) -> u64
-    ensures { IsStreamedWord incoming.now Back 0 result }
-{
-    let arriving = west_of_first(incoming.plane, incoming.width);
-    let blocked = west_of_first(incoming.solid_there, incoming.width);
-    stream_word(incoming, 0, arriving, blocked)
-}
-
-// The last word after streaming from the east.
-#[inline(always)]
-fn last_from_east<'a>(incoming: &Incoming<'a>) -> u64
-    ensures { IsStreamedWord incoming.now On (words_in incoming.now.width - 1) result }
-{
-    let arriving = east_of_last(incoming.plane, incoming.width);
-    let blocked = east_of_last(incoming.solid_there, incoming.width);
-    stream_word(incoming, incoming.plane.len() - 1, arriving, blocked)
-}
-
-// Streams from the west into the words at which the row closes, and returns how many: the first alone
-// in a row of fewer than four words, else the first four, and up to twelve more by four. Four words
-// are computed before one is written, so that the compiler computes them at once.
-#[inline(always)]
-#[tactic(auto, using(crate::proofs::Words::word_writes))]
-fn end_from_west<'a>(incoming: &Incoming<'a>, out: &mut [u64]) -> usize
-    requires out { length out.old ≡ words_in incoming.now.width }
-    ensures some { 1 ≤ result }
-    ensures within { result ≤ length out.new }
-    ensures streamed { AreStreamed incoming.now Back 0 result out.new }
-{
-    let first = first_from_west(incoming);
-    if out.len() < 4 {
-        out[0] = first;
-        return 1;
-    }
-    let second = word_from_west(incoming, 1);
-    let third = word_from_west(incoming, 2);
-    let fourth = word_from_west(incoming, 3);
-    out[0] = first;
-    out[1] = second;
-    out[2] = third;
-    out[3] = fourth;
-    for k in 1..4 {
-        if out.len() < 4 * k + 4 {
-            return 4 * k;
-        }
-        four_from_west(incoming, 4 * k, out);
-    }
-    16
-}
-
-// Streams from the west into words `at` to `at + 3`, after those before.
-#[inline(always)]
-#[tactic(auto, using(crate::proofs::Words::word_writes))]
-fn four_from_west<'a>(incoming: &Incoming<'a>, at: usize, out: &mut [u64])
-    requires out { length out.old ≡ words_in incoming.now.width }
-    requires after_first { 1 ≤ at }
-    requires within { at + 4 ≤ length out.old }
-    ensures { AreStreamed incoming.now Back 0 at out.old →
-        AreStreamed incoming.now Back 0 (at + 4) out.new }
-{
-    let first = word_from_west(incoming, at);
-    let second = word_from_west(incoming, at + 1);
-    let third = word_from_west(incoming, at + 2);
-    let fourth = word_from_west(incoming, at + 3);
-    out[at] = first;
-    out[at + 1] = second;
-    out[at + 2] = third;
-    out[at + 3] = fourth;
-}
-
-// Streams from the east into the words at which the row closes, as from the west, and returns the first
-// of them.
-#[inline(always)]
-#[tactic(auto, using(crate::proofs::Words::word_writes))]
-fn end_from_east<'a>(incoming: &Incoming<'a>, out: &mut [u64]) -> usize
-    requires out { length out.old ≡ words_in incoming.now.width }
-    ensures before_last { result < length out.new }
-    ensures streamed { AreStreamed incoming.now On result (length out.new) out.new }
-{
-    let all = out.len();
-    let fourth = last_from_east(incoming);
-    if all < 4 {
-        out[all - 1] = fourth;
-        return all - 1;
-    }
-    let first = word_from_east(incoming, all - 4);
-    let second = word_from_east(incoming, all - 3);
-    let third = word_from_east(incoming, all - 2);
-    out[all - 4] = first;
-    out[all - 3] = second;
-    out[all - 2] = third;
-    out[all - 1] = fourth;
-    for k in 1..4 {
-        if all < 4 * k + 4 {
-            return all - 4 * k;
-        }
-        four_from_east(incoming, all - 4 * k - 4, out);
-    }
-    all - 16
-}
-
-// Streams from the east into words `at` to `at + 3`, after those behind.
-#[inline(always)]
-#[tactic(auto, using(crate::proofs::Words::word_writes))]
-fn four_from_east<'a>(incoming: &Incoming<'a>, at: usize, out: &mut [u64])
-    requires out { length out.old ≡ words_in incoming.now.width }
-    requires before_last { at + 4 < length out.old }
-    ensures { AreStreamed incoming.now On (at + 4) (length out.old) out.old →
-        AreStreamed incoming.now On at (length out.old) out.new }
-{
-    let first = word_from_east(incoming, at);
-    let second = word_from_east(incoming, at + 1);
-    let third = word_from_east(incoming, at + 2);
-    let fourth = word_from_east(incoming, at + 3);
-    out[at] = first;
-    out[at + 1] = second;
-    out[at + 2] = third;
-    out[at + 3] = fourth;
-}
-
-// Streams into all words from the west. Bits past the width are left open.
-#[inline(always)]
-#[tactic(auto, using(crate::proofs::Words::word_writes))]
-fn stream_from_west<'a>(incoming: &Incoming<'a>, out: &mut [u64])
-    requires out { length out.old ≡ words_in incoming.now.width }
-    ensures { AreStreamed incoming.now Back 0 (length out.new) out.new }
-{
-    let from = end_from_west(incoming, out);
-    for j in from..out.len() {
-        out[j] = word_from_west(incoming, j);
-    }
-}
-
-// Streams into all words from the east. Bits past the width are left open.
-#[inline(always)]
-#[tactic(auto, using(crate::proofs::Words::word_writes))]
-fn stream_from_east<'a>(incoming: &Incoming<'a>, out: &mut [u64])
-    requires out { length out.old ≡ words_in incoming.now.width }
-    ensures { AreStreamed incoming.now On 0 (length out.new) out.new }
-{
-    let end = end_from_east(incoming, out);
-    for j in 0..end {
-        out[j] = word_from_east(incoming, j);
-    }
-}
-
-// Word `j` after streaming from the same column.
-#[inline(always)]
-fn word_from_here<'a>(incoming: &Incoming<'a>, j: usize) -> u64
-    requires within { j < words_in incoming.now.width }
-    ensures { IsStreamedWord incoming.now Stay j result }
-{
-    stream_word(incoming, j, incoming.plane[j], incoming.solid_there[j])
-}
-
-// Streams from the same column into words `at` to `at + 3`, after those before.
-#[inline(always)]
-#[tactic(auto, using(crate::proofs::Words::word_writes))]
-fn four_from_here<'a>(incoming: &Incoming<'a>, at: usize, out: &mut [u64])
-    requires out { length out.old ≡ words_in incoming.now.width }
-    requires within { at + 4 ≤ length out.old }
-    ensures { AreStreamed incoming.now Stay 0 at out.old →
-        AreStreamed incoming.now Stay 0 (at + 4) out.new }
-{
-    let first = word_from_here(incoming, at);
-    let second = word_from_here(incoming, at + 1);
-    let third = word_from_here(incoming, at + 2);
-    let fourth = word_from_here(incoming, at + 3);
-    out[at] = first;
-    out[at + 1] = second;
-    out[at + 2] = third;
-    out[at + 3] = fourth;
-}
-
-// Streams into all words from the same column: four at a time, because a call that copies a short row
-// costs more than the row.
-#[inline(always)]
-#[tactic(auto, using(crate::proofs::Words::word_writes))]
-fn stream_from_here<'a>(incoming: &Incoming<'a>, out: &mut [u64])
-    requires out { length out.old ≡ words_in incoming.now.width }
-    ensures { AreStreamed incoming.now Stay 0 (length out.new) out.new }
-{
-    let fours = out.len() / 4;
-    for k in 0..fours {
-        four_from_here(incoming, 4 * k, out);
-    }
-    for j in 4 * fours..out.len() {
-        out[j] = word_from_here(incoming, j);
-    }
-}
-
-// Streams into all words. Bits past the width are left open.
-#[inline(always)]
-fn stream_along<'a>(along: Move, incoming: &Incoming<'a>, out: &mut [u64])
-    requires out { length out.old ≡ words_in incoming.now.width }
-    ensures { AreStreamed incoming.now along 0 (length out.new) out.new }
-{
-    match along {
-        Move::Back => stream_from_west(incoming, out),
-        Move::Stay => stream_from_here(incoming, out),
-        Move::On => stream_from_east(incoming, out),
-    }
-}
-
-/// Streams direction `i` into the words of a row. The move leads along the row to where the particles
-/// come from.
-#[inline(always)]
-pub fn stream_plane<'a>(words: &mut [u64], i: usize, along: Move, incoming: &Incoming<'a>)
-    requires direction { i < 8 }
-    requires within { i * words_in incoming.now.width + words_in incoming.now.width ≤ length words.old }
-    ensures streamed { (x : ℕ) → x < incoming.now.width →
-        has words.new (words_in incoming.now.width) i x ≡ streamed_cell incoming.now along x }
-    ensures clear { (x : ℕ) → incoming.now.width ≤ x → x < 64 * words_in incoming.now.width →
-        has words.new (words_in incoming.now.width) i x ≡ false }
-    ensures others { (k x : ℕ) → k ≢ i → x / 64 < words_in incoming.now.width →
-        has words.new (words_in incoming.now.width) k x
-        ≡ has words.old (words_in incoming.now.width) k x }
-{
-    let words_each = words_for(incoming.width);
-    let out = &mut words[i * words_each..i * words_each + words_each];
-    stream_along(along, incoming, out);
-    clear_past(out, incoming.width);
+    let n = words_for(incoming.width);
+    let blocked = four_beside(along, incoming.solid_there, incoming.width, j, first, last);
+    let opposite = four_at(incoming.opposite_here, n, j);
+    bounce(
+        arriving,
+        blocked,
+        opposite,
+        four_at(incoming.solid_here, n, j),
+    )
 }

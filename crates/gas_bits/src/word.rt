@@ -44,15 +44,6 @@ pub(crate) fn fill_word(value: bool) -> u64
     if value { u64::MAX } else { 0 }
 }
 
-/// The word with these halves of 32 bits.
-#[inline(always)]
-pub fn join_halves(low: u32, high: u32) -> u64
-    ensures bits { (b : ℕ) → b < 64 → holds result b
-        ≡ (if nat_lt b 32 then holds low b else holds high (b - 32)) }
-{
-    u64::from(low) | (u64::from(high) << 32)
-}
-
 /// The word with the bits above `last`, 0 to 63, cleared.
 #[inline(always)]
 pub(crate) fn clear_above(word: u64, last: u32) -> u64
@@ -68,15 +59,6 @@ pub(crate) fn clear_bits(word: u64, mask: u64) -> u64
     ensures { (b : ℕ) → b < 64 → holds result b ≡ (holds word b && not (holds mask b)) }
 {
     word & !mask
-}
-
-/// The western neighbours of the cells of a word. That of the first cell is bit 63 of `before`.
-#[inline(always)]
-pub(crate) fn from_west(before: u64, word: u64) -> u64
-    ensures { (b : ℕ) → b < 64 → holds result b
-        ≡ (if b == 0 then holds before 63 else holds word (b - 1)) }
-{
-    (word << 1) | (before >> 63)
 }
 
 /// The eastern neighbours of the cells of a word up to bit `last`. That of the last one is bit 0 of

@@ -1,2 +1,3 @@
 pub mod Written
-pub mod Planes
+pub mod Passes
+mod Beside

@@ -88,6 +88,13 @@ fn words_of(planes: usize, size: Size) -> usize
     size.height() as usize * (planes * words_for(size.width()))
 }
 
+// The number of cells, in 64 bits also in a module of 32, whose pointers can't count the largest size.
+fn cells_of(size: Size) -> u64
+    ensures value { result ≡ size.height * size.width }
+{
+    u64::from(size.height()) * u64::from(size.width())
+}
+
 // The number of words of the memory that generations are computed in.
 fn work_of(gas: u32, width: u32) -> usize
     requires few_cells { width ≤ 65536 }
@@ -163,7 +170,7 @@ pub extern "C" fn fhpgas_pack(
     let Some(size) = Size::new(width, height) else {
         return Status::Size as u32;
     };
-    lawful!(bytes.len() == height as usize * width as usize, Length);
+    lawful!(bytes.len() as u64 == cells_of(size), Length);
     lawful!(words.len() == words_of(planes as usize, size), Length);
     lawful!(are_below(bytes, planes), Byte);
     pack(size, planes as usize, bytes, words);
@@ -191,7 +198,7 @@ pub extern "C" fn fhpgas_unpack(
         return Status::Size as u32;
     };
     lawful!(words.len() == words_of(planes as usize, size), Length);
-    lawful!(bytes.len() == height as usize * width as usize, Length);
+    lawful!(bytes.len() as u64 == cells_of(size), Length);
     unpack(size, planes as usize, words, bytes);
     Status::Done as u32
 }
@@ -224,10 +231,13 @@ pub extern "C" fn fhpgas_sums(
         return Status::Size as u32;
     };
     lawful!(block_width > 0 && block_height > 0, Block);
-    let blocks = height.div_ceil(block_height) as usize * width.div_ceil(block_width) as usize;
+    let blocks = u64::from(height.div_ceil(block_height)) * u64::from(width.div_ceil(block_width));
     lawful!(solid.len() == words_of(1, size), Length);
     lawful!(states.len() == words_of(directions_of(gas), size), Length);
-    lawful!(sums.len() % 4 == 0 && sums.len() / 4 == blocks, Length);
+    lawful!(
+        sums.len() % 4 == 0 && sums.len() as u64 / 4 == blocks,
+        Length
+    );
     for_gas!(
         gas,
         sum_blocks(size, block_width, block_height, solid, states, sums)

@@ -1,4 +1,5 @@
 //! When a thread of the line that waits spins, yields and parks. Public for tests only.
+ghost use Rattle.std.specs.Prelude.{IsSome, IsFalse};
 
 use crossbeam_utils::CachePadded;
 use std::sync::atomic::{AtomicU64, Ordering};
@@ -82,7 +83,9 @@ impl Backoff {
     }
 
     /// The next phase, after a try that failed. None if the stop flag is raised.
-    pub fn next(&mut self, is_stopped: bool, ban: &YieldBan) -> Option<Phase> {
+    pub fn next(&mut self, is_stopped: bool, ban: &YieldBan) -> Option<Phase>
+        ensures goes_on { IsFalse is_stopped → IsSome result }
+    {
         if is_stopped {
             return None;
         }

@@ -75,9 +75,9 @@ impl Gate for NoGate {
 /// out evenly to the workers, in their order. With fewer threads than stages the first worker is on the
 /// caller's thread too. Each stage enters the gate before each of its passes, and leaves it at the end of
 /// its thread. The rows of a pass follow the rows of the pass before on the same belts. Each belt carries
-/// one list of rows: all that was put on it and all that was taken from it. No memory is taken between
-/// the last start of a thread and the first join. `Memory` if a request for memory, or the start of a
-/// thread, was refused.
+/// one list of rows: all that was put on it and all that was taken from it. `Memory` if a request for
+/// memory, or the start of a thread, was refused. Tests show that memory is taken only before the last
+/// start of a thread and after the first join.
 pub fn run<G: Gas + Send, H: Gate + Sync, R: Threads + Wait + Sync>(
     rt: &R,
     alloc: Global,

@@ -156,7 +156,7 @@ impl<'a, G: Gas> LineWorker<'a, G> {
                 Turn::Over => return true,
                 Turn::Moved => {}
                 Turn::Idle => {
-                    if !waiter.wait(shared.rt) {
+                    if !waiter.wait(shared.rt, shared.wake_ups.is_stopped()) {
                         return false;
                     }
                 }

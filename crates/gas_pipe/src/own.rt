@@ -111,7 +111,7 @@ impl<'a, G: Gas> Own<'a, G> {
                 Turn::Over => return true,
                 Turn::Moved => {}
                 Turn::Idle => {
-                    if !waiter.wait(shared.rt) {
+                    if !waiter.wait(shared.rt, shared.wake_ups.is_stopped()) {
                         return false;
                     }
                 }

@@ -1,5 +1,5 @@
 //! How a thread of a run waits for its neighbours and wakes them.
-ghost use Rattle.std.specs.Prelude.{◌≡◌};
+ghost use Rattle.std.specs.Prelude.{◌≡◌, IsTrue, IsFalse};
 ghost use Rattle.gas_pipe.specs.declared.waiter.Turn.TheVariants.{Over};
 
 use crate::backoff::{Backoff, Phase};
@@ -62,8 +62,9 @@ impl<'a> Waiter<'a> {
 
     /// Takes one step of a wait, after turns in which nothing could be done. Returns whether to go
     /// on: not if the stop flag is raised.
-    pub(crate) fn wait<R: Wait>(&mut self, rt: &R) -> bool {
-        let is_stopped = self.wake_ups.is_stopped();
+    pub(crate) fn wait<R: Wait>(&mut self, rt: &R, is_stopped: bool) -> bool
+        ensures goes_on { IsFalse is_stopped → IsTrue result }
+    {
         let Some(phase) = self.backoff.next(is_stopped, self.wake_ups.yield_ban()) else {
             return false;
         };

@@ -1,13 +1,8 @@
 -- A row whose words were collided.
-use Rattle.std.proofs.Common.{◌≡◌, ℕ, zero, suc, ◌/◌, ◌<◌, Bool, true, false, if◌then◌else◌, List, length, get_or, refl, sym, ap, ◌∙◌, subst, arith, inl, inr}
-use Rattle.std.proofs.lemmas.Bool.{cases_eq, cases_lt}
+use Rattle.std.proofs.Common.{◌≡◌, ℕ, ◌/◌, ◌<◌, Bool, true, false, if◌then◌else◌, List, length, get_or, refl, sym, ap, ◌∙◌, subst, arith}
 use Rattle.std.proofs.lemmas.Nat.{pow_pos}
-use Rattle.std.proofs.lemmas.Nat.Bits.{bit_at-zero, bit_at_above, same_from_bits}
 use Rattle.std.proofs.lemmas.List.FromFn.{get_or-map-range_with_len, length-map-range_with_len}
-use Rattle.std.specs.Int.{bit_at}
-use Rattle.gas_geom.specs.Gas.{Rules, IsGas, holds}
-use Rattle.gas_geom.proofs.Sums.{sum_below}
-use Rattle.gas_geom.proofs.Held.{particles-bits}
+use Rattle.gas_geom.specs.Gas.{holds}
 use Rattle.gas_geom.specs.Lattice.{row_of}
 use Rattle.gas_geom.proofs.Holds.{holds-zero}
 use Rattle.gas_bits.specs.Words.{words_in, bit}
@@ -19,27 +14,6 @@ use Rattle.gas_rows.proofs.Cells.{cells-from}
 use Rattle.gas_rows.proofs.Rows.{AreOf, wide, read, planes-other}
 
 -- ---- a row of which each cell was collided, the cells past the width too
--- nothing collides to nothing
-no_bits : (n : ℕ) (s : ℕ) → sum_below n (λ i. bit_at s i) ≡ 0 → (i : ℕ) → i < n → bit_at s i ≡ 0
-no_bits zero s h i lt = absurd (omega arith)
-no_bits (suc n) s h i lt = elim (cases_eq i n) [
-  | inl e ↦ ap (bit_at s) e ∙ (let z : bit_at s n ≡ 0 = omega arith in z)
-  | inr ne ↦ no_bits n s (omega arith) i (omega arith)
-]
-
-zero_bits : (n : ℕ) → sum_below n (λ i. bit_at 0 i) ≡ 0
-zero_bits zero = refl
-zero_bits (suc n) = omega (arith, zero_bits n, bit_at-zero n)
-
-pub nothing : (gas : Rules) → IsGas gas → (r : Bool) → gas.collide 0 r ≡ 0
-nothing gas laws r =
-    let none : sum_below gas.dirs (λ i. bit_at (gas.collide 0 r) i) ≡ 0 =
-    sym (particles-bits gas (gas.collide 0 r)) ∙ laws.collide_keeps 0 r (pow_pos gas.dirs) ∙ particles-bits gas 0 ∙ zero_bits gas.dirs in
-    same_from_bits (gas.collide 0 r) 0 (λ i. elim (cases_lt i gas.dirs) [
-      | inl lt ↦ no_bits gas.dirs (gas.collide 0 r) none i lt ∙ sym (bit_at-zero i)
-      | inr le ↦ bit_at_above (gas.collide 0 r) gas.dirs i (laws.collide_within 0 r (pow_pos gas.dirs)) le ∙ sym (bit_at-zero i)
-    ])
-
 module _ (d : ℕ) (table : ℕ → Bool → ℕ) (none : (r : Bool) → table 0 r ≡ 0) (width : ℕ) (words row : List ℕ) (inside : ArePlanes d width words)
     (view : cells_of d width words ≡ row) (new : List ℕ) (n : ℕ) (chi solid : List ℕ) (en : n ≡ words_in width)
     (same_long : length new ≡ length words)

@@ -1,8 +1,10 @@
 -- Masks as the lists of their cells' truth values.
-use Rattle.std.proofs.Common.{◌≡◌, ◌≢◌, ℕ, ◌+◌, ◌-◌, ◌*◌, ◌/◌, ◌%◌, ◌<◌, ◌≤◌, Bool, true, false, ◌&&◌, not, if◌then◌else◌, List, map, length, get_or, set, replicate, sym, ap, ◌∙◌, arith, length-set}
+use Rattle.std.proofs.Common.{◌≡◌, ◌≢◌, ℕ, ◌+◌, ◌-◌, ◌*◌, ◌/◌, ◌%◌, ◌^◌, ◌<◌, ◌≤◌, Bool, true, false, ◌&&◌, not, if◌then◌else◌, List, map, length, get_or, set, replicate, sym, ap, ◌∙◌, arith, length-set, inl, inr}
 use Rattle.std.specs.Prelude.{◌==◌, nat_lt}
 use Rattle.std.specs.List.{range_with_len, count_by}
+use Rattle.std.proofs.lemmas.Bool.{cases_lt, lt-ltb, le-ltb}
 use Rattle.std.proofs.lemmas.Bool.Decides.{nat_tests}
+use Rattle.std.proofs.lemmas.Nat.Bits.{bit_at_cat_low, bit_at_cat_high}
 use Rattle.std.proofs.lemmas.List.{get_or-replicate, length-replicate, ext_get_or, places}
 use Rattle.std.proofs.lemmas.Grind.{get_or-set_at}
 use Rattle.std.proofs.lemmas.List.FromFn.{get_or-map-range_with_len, length-map-range_with_len, fill_by_all}
@@ -12,6 +14,16 @@ use Rattle.gas_bits.specs.Words.{words_in, bit}
 use Rattle.gas_rows.specs.Inner.Mask.{cells, IsMask}
 use Rattle.gas_bits.proofs.Words.{bit-is, bit-set, bit-zeros}
 use Rattle.gas_bits.proofs.Ones.{count-map}
+
+-- the bits of a word that is made of two halves
+pub holds-joined : (low high b : ℕ) → low < 2 ^ 32 → holds (low + high * 2 ^ 32) b ≡ (if nat_lt b 32 then holds low b else holds high (b - 32))
+holds-joined low high b lt =
+    let turned : low + high * 2 ^ 32 ≡ high * 2 ^ 32 + low = omega arith in
+    let choice = λ (t : Bool). if t then holds low b else holds high (b - 32) in
+    ap (λ w. holds w b) turned ∙ elim (cases_lt b 32) [
+      | inl below ↦ ap (λ x. x == 1) (bit_at_cat_low high 32 low b below) ∙ sym (ap choice (lt-ltb b 32 below))
+      | inr above ↦ ap (λ x. x == 1) (bit_at_cat_high high 32 low b lt above) ∙ sym (ap choice (le-ltb b 32 above))
+    ]
 
 -- a word more whose halves are two words of 32 cells, of which the second may lie past the width
 pub join-more : (words : List ℕ) (half : ℕ → ℕ) (width j low high v : ℕ) → j < length words →

@@ -1,6 +1,7 @@
 -- A streamed cell, direction by direction, by the row that its particles come from.
-use Rattle.std.proofs.Common.{◌≡◌, ℕ, ◌+◌, ◌-◌, ◌*◌, ◌/◌, ◌%◌, ◌^◌, ◌<◌, ◌≤◌, subst, option_map, Bool, true, false, if◌then◌else◌, Option, Some, None, List, take, drop, length, get_or, ap, ◌∙◌, sym, arith, refl}
+use Rattle.std.proofs.Common.{◌≡◌, ℕ, ◌+◌, ◌-◌, ◌*◌, ◌/◌, ◌%◌, ◌^◌, ◌<◌, ◌≤◌, subst, option_map, Bool, true, false, if◌then◌else◌, Option, Some, None, List, take, drop, length, get_or, ap, ◌∙◌, sym, arith, refl, inl, inr}
 use Rattle.std.specs.Option.{option_map_or}
+use Rattle.std.proofs.lemmas.Bool.{cases_lt}
 use Rattle.std.proofs.lemmas.Bool.Decides.{nat_tests}
 use Rattle.std.proofs.lemmas.Nat.{pow_pos}
 use Rattle.gas_geom.specs.Gas.{Rules, holds}
@@ -14,14 +15,16 @@ use Rattle.gas_geom.proofs.Arriving.{arrives_from}
 use Rattle.gas_geom.proofs.Holds.{set_of-lt, holds-set_of, holds-zero}
 use Rattle.gas_bits.specs.Words.{words_in, bit}
 use Rattle.gas_bits.specs.Planes.{has, state}
-use Rattle.gas_bits.proofs.Cells.{part_get, whole_plane, state-from}
+use Rattle.gas_bits.proofs.Cells.{part_get, whole_plane}
+use Rattle.gas_bits.proofs.Fours.{each_lane}
 use Rattle.gas_bits.proofs.ShiftedBits.{streamed_bit}
 use Rattle.gas_rows.specs.Beside.{is_solid_beside}
 use Rattle.gas_rows.specs.Planes.{cells_of}
 use Rattle.gas_rows.specs.Streaming.{AreRowsAbout, IsRowAt, AreWordsAbout}
+use Rattle.gas_rows.specs.declared.stream.Kernel.{Kernel}
 use Rattle.gas_rows.specs.declared.stream.Neighbourhood.{Neighbourhood}
 use Rattle.gas_rows.specs.Inner.Beside.{row_beside}
-use Rattle.gas_rows.specs.Inner.Streaming.{AreStreamed}
+use Rattle.gas_rows.specs.Inner.Streaming.{advanced_state, AreAdvanced}
 use Rattle.gas_rows.proofs.Cells.{holds-cells}
 
 -- what a streamed cell holds
@@ -37,7 +40,7 @@ by_cases : (s t own met back came back' came' : Bool) → own ≡ s → met ≡ 
     → streamed_bit came met back own ≡ (if s then false else if t then back' else came')
 by_cases s t own met back came back' came' eo em hb hc = grind arith
 
-streamed-lt : (gas : Rules) (c : ChannelModel) (at : ℕ → ℕ → ℕ) (x y : ℕ) → streamed gas c at x y < 2 ^ gas.dirs
+pub streamed-lt : (gas : Rules) (c : ChannelModel) (at : ℕ → ℕ → ℕ) (x y : ℕ) → streamed gas c at x y < 2 ^ gas.dirs
 streamed-lt gas c at x y = by (is_solid c x y)
   where
     by : (solid : Bool) → (if solid then 0 else set_of gas.dirs (arriving gas c at x y)) < 2 ^ gas.dirs
@@ -123,7 +126,22 @@ beside-solid dirs c at n Stay x about lt = about.solid_middle x lt
 beside-solid dirs c at n On x about lt = about.solid_below x lt
 
 -- ---- all directions
-pub all_streamed : (gas : Rules) (c : ChannelModel) (at : ℕ → ℕ → ℕ) (n : Neighbourhood) (words : List ℕ) → gas.dirs ≤ 8 → AreStreamed gas c at n 8 words
-    → (x : ℕ) → x < c.width → state words (words_in n.width) gas.dirs x ≡ streamed gas c at x n.y
-all_streamed gas c at n words few each x lt =
-    state-from words (words_in n.width) gas.dirs x (streamed gas c at x n.y) (streamed-lt gas c at x n.y) (λ i in_gas. each i x (omega (arith, in_gas, few)) in_gas lt)
+pub each_of_eight : (P : ℕ → Type 0) → P 0 → P 1 → P 2 → P 3 → P 4 → P 5 → P 6 → P 7 → (i : ℕ) → i < 8 → P i
+each_of_eight P p0 p1 p2 p3 p4 p5 p6 p7 i h = elim (cases_lt i 4) [
+  | inl low ↦ each_lane P p0 p1 p2 p3 i low
+  | inr high ↦ subst P (let e : 4 + (i - 4) ≡ i = omega (arith, high) in e) (each_lane (λ k. P (4 + k)) p4 p5 p6 p7 (i - 4) (omega (arith, h, high)))
+]
+
+-- ---- all words
+pub all_advanced : (gas : Rules) (c : ChannelModel) (at : ℕ → ℕ → ℕ) (n : Neighbourhood) (k : Kernel) (to : ℕ) (old new chi : List ℕ) (collides : Bool)
+    → k.rows ≡ n → k.chi.now ≡ chi → k.collides ≡ collides → AreWordsAbout gas.dirs c at n → words_in n.width ≤ to
+    → (AreWordsAbout gas.dirs c at k.rows → AreAdvanced gas c at k 0 to old new)
+    → (x : ℕ) → x < c.width → state new (words_in n.width) gas.dirs x ≡ advanced_state gas collides (streamed gas c at x n.y) (bit chi x)
+all_advanced gas c at n k to old new chi collides er ec eb about all advanced x lt =
+    let here = advanced (subst (λ (m : Neighbourhood). AreWordsAbout gas.dirs c at m) (sym er) about) x lt in
+    let inside : x < 64 * to = omega (arith, lt, all, about.wide) in
+    sym (ap (λ (m : Neighbourhood). state new (words_in m.width) gas.dirs x) er)
+    ∙ (let e : state new (words_in k.rows.width) gas.dirs x ≡ advanced_state gas k.collides (streamed gas c at x k.rows.y) (bit k.chi.now x) = grind (arith, nat_tests) in e)
+    ∙ ap (λ (m : Neighbourhood). advanced_state gas k.collides (streamed gas c at x m.y) (bit k.chi.now x)) er
+    ∙ ap (λ (ws : List ℕ). advanced_state gas k.collides (streamed gas c at x n.y) (bit ws x)) ec
+    ∙ ap (λ (b : Bool). advanced_state gas b (streamed gas c at x n.y) (bit chi x)) eb

@@ -2,6 +2,5 @@
 pub mod Planes
 pub mod Mask
 pub mod Key
-pub mod Collision
 pub mod Beside
 pub mod Streaming

@@ -1,10 +1,12 @@
 //! The collision of the words of a row, four words of each direction at a time.
-ghost use Rattle.std.specs.Prelude.{◌≡◌, ◌+◌, ◌*◌, ◌/◌, ◌<◌, ◌≤◌, ℕ, false, IsTrue, length, slice_index};
+ghost use Rattle.std.specs.Prelude.{◌≡◌, ◌+◌, ◌-◌, ◌*◌, ◌/◌, ◌<◌, ◌≤◌, ◌&&◌, ℕ, false, IsTrue, if◌then◌else◌, max, nat_le, nat_lt, length, replicate};
 ghost use Rattle.gas_geom.specs.declared.size.TheConstants.{MOST_SIDE};
 ghost use Rattle.gas_bits.specs.Words.{words_in, bit};
 
-use gas_bits::planes::{planes_at, write_four_at, write_planes_at};
+use gas_bits::planes::{four_planes_at, write_four_at};
+use gas_bits::stream::four_at;
 use gas_geom::gas::Gas;
+use std::simd::prelude::*;
 
 /// What a collision reads beside the words of a row: a word for each 64 cells.
 #[derive(Clone, Copy)]
@@ -24,10 +26,10 @@ pub struct Collision<'a> {
 }
 
 impl<'a> Collision<'a> {
-    ghost use Rattle.gas_geom.specs.Gas.{holds};
+    ghost use Rattle.gas_geom.specs.Lanes.{lanes_hold};
+    ghost use Rattle.gas_geom.specs.Planes.{set_in};
     ghost use Rattle.gas_bits.specs.Planes.{state};
     ghost use Rattle.gas_rows.specs.Collision.{collided_state};
-    ghost use Rattle.gas_rows.specs.Inner.Collision.{AreCollided};
 
     /// Collides each cell by the gas's table with its random bit, and empties the solid cells.
     #[inline(never)]
@@ -37,88 +39,121 @@ impl<'a> Collision<'a> {
             state words.new self.now.words_each G.rules.dirs y
             ≡ collided_state G.rules self.now words.old y }
     {
-        // A parameter of the type, so that the compiler leaves out the solid cells of a row that has
-        // none, and a copy, so that it knows that no store through `words` changes it.
+        // A constant, so that a compiler leaves out the solid cells of a row that has none, and a copy, so
+        // that it knows that no store through `words` changes it.
         let collision = *self;
         if collision.all_fluid {
-            collision.collide_words::<G, true>(words);
+            collision.collide_here::<G>(words, true);
         } else {
-            collision.collide_words::<G, false>(words);
+            collision.collide_here::<G>(words, false);
+        }
+    }
+
+    /// Writes the cells of `from` after a collision, as `collide` does, and leaves `from` as it was.
+    #[inline(never)]
+    pub fn collide_into<G: Gas>(&self, from: &[u64], out: &mut [u64])
+        requires from { length from.now ≡ G.rules.dirs * self.now.words_each }
+        requires out { length out.old ≡ G.rules.dirs * self.now.words_each }
+        ensures collided { (y : ℕ) → y / 64 < self.now.words_each →
+            state out.new self.now.words_each G.rules.dirs y
+            ≡ collided_state G.rules self.now from.now y }
+    {
+        let collision = *self;
+        if collision.all_fluid {
+            collision.collide_there::<G>(from, out, true);
+        } else {
+            collision.collide_there::<G>(from, out, false);
         }
     }
 
     #[inline(always)]
-    fn collide_words<G: Gas, const ALL_FLUID: bool>(&self, words: &mut [u64])
+    fn collide_here<G: Gas>(&self, words: &mut [u64], all_fluid: bool)
         requires long { length words.old ≡ G.rules.dirs * self.now.words_each }
-        requires fluid { IsTrue ALL_FLUID → IsTrue self.now.all_fluid }
+        requires fluid { IsTrue all_fluid → IsTrue self.now.all_fluid }
         ensures { (y : ℕ) → y / 64 < self.now.words_each →
             state words.new self.now.words_each G.rules.dirs y
             ≡ collided_state G.rules self.now words.old y }
     {
-        let fours = self.words_each / 4;
-        for k in 0..fours {
-            self.collide_four::<G, ALL_FLUID>(words, 4 * k);
+        if self.words_each < 4 {
+            let all = self.collided::<G>(words, 0);
+            self.put::<G>(words, 0, all, all_fluid);
+            return;
         }
-        for j in 4 * fours..self.words_each {
-            self.collide_word::<G, ALL_FLUID>(words, j);
+        // The last four words are collided before those that they lie over are written.
+        let end = self.words_each - 4;
+        let last = self.collided::<G>(words, end);
+        for k in 0..(self.words_each - 1) / 4 {
+            let four = self.collided::<G>(words, 4 * k);
+            self.put::<G>(words, 4 * k, four, all_fluid);
         }
+        self.put::<G>(words, end, last, all_fluid);
     }
 
-    // The solid cells of word j.
     #[inline(always)]
-    fn solid_word<const ALL_FLUID: bool>(&self, j: usize) -> u64
-        requires within { j < self.now.words_each }
-        requires fluid { IsTrue ALL_FLUID → IsTrue self.now.all_fluid }
-        ensures { (b : ℕ) → b < 64 → holds result b ≡ holds (slice_index self.now.solid.now j) b }
+    fn collide_there<G: Gas>(&self, from: &[u64], out: &mut [u64], all_fluid: bool)
+        requires from { length from.now ≡ G.rules.dirs * self.now.words_each }
+        requires out { length out.old ≡ G.rules.dirs * self.now.words_each }
+        requires fluid { IsTrue all_fluid → IsTrue self.now.all_fluid }
+        ensures { (y : ℕ) → y / 64 < self.now.words_each →
+            state out.new self.now.words_each G.rules.dirs y
+            ≡ collided_state G.rules self.now from.now y }
     {
-        if ALL_FLUID { 0 } else { self.solid[j] }
+        if self.words_each < 4 {
+            self.put::<G>(out, 0, self.collided::<G>(from, 0), all_fluid);
+            return;
+        }
+        for k in 0..(self.words_each - 1) / 4 {
+            self.put::<G>(out, 4 * k, self.collided::<G>(from, 4 * k), all_fluid);
+        }
+        let end = self.words_each - 4;
+        self.put::<G>(out, end, self.collided::<G>(from, end), all_fluid);
     }
 
-    // Collides the cells of words j to j + 3. All are read before one is written, so that a compiler
-    // can vectorise.
+    // Words `j` to `j + 3` of each direction after a collision of all their cells.
     #[inline(always)]
-    fn collide_four<G: Gas, const ALL_FLUID: bool>(&self, words: &mut [u64], j: usize)
+    fn collided<G: Gas>(&self, words: &[u64], j: usize) -> [u64x4; 8]
+        requires long { length words.now ≡ G.rules.dirs * self.now.words_each }
+        requires within { j + 4 ≤ max 4 self.now.words_each }
+        ensures { (y : ℕ) → 64 * j ≤ y → y < 64 * j + 256 → y / 64 < self.now.words_each →
+            set_in lanes_hold (replicate 4 0) G.rules.dirs result (y - 64 * j)
+            ≡ G.rules.collide (state words.now self.now.words_each G.rules.dirs y)
+            (bit self.now.chi.now y) }
+    {
+        let planes = four_planes_at(words, self.words_each, directions::<G>(), j);
+        G::collide_planes(planes, four_at(self.chi, self.words_each, j))
+    }
+
+    // Writes words `j` to `j + 3` of each direction, with zeros at solid cells.
+    #[inline(always)]
+    fn put<G: Gas>(&self, words: &mut [u64], j: usize, planes: [u64x4; 8], all_fluid: bool)
         requires long { length words.old ≡ G.rules.dirs * self.now.words_each }
-        requires fluid { IsTrue ALL_FLUID → IsTrue self.now.all_fluid }
-        requires within { j + 3 < self.now.words_each }
-        ensures { AreCollided G.rules self.now j (j + 4) words.old words.new }
+        requires within { j + 4 ≤ max 4 self.now.words_each }
+        requires fluid { IsTrue all_fluid → IsTrue self.now.all_fluid }
+        ensures long { length words.new ≡ length words.old }
+        ensures written { (y : ℕ) → y / 64 < self.now.words_each →
+            state words.new self.now.words_each G.rules.dirs y
+            ≡ (if nat_le (64 * j) y && nat_lt y (64 * j + 256) then
+            (if bit self.now.solid.now y then 0
+            else set_in lanes_hold (replicate 4 0) G.rules.dirs planes (y - 64 * j))
+            else state words.old self.now.words_each G.rules.dirs y) }
     {
-        let dirs = directions::<G>();
-        let words_each = self.words_each;
-        let chi = self.chi;
-        let first = planes_at(words, words_each, dirs, j);
-        let second = planes_at(words, words_each, dirs, j + 1);
-        let third = planes_at(words, words_each, dirs, j + 2);
-        let fourth = planes_at(words, words_each, dirs, j + 3);
-        let solid = [
-            self.solid_word::<ALL_FLUID>(j),
-            self.solid_word::<ALL_FLUID>(j + 1),
-            self.solid_word::<ALL_FLUID>(j + 2),
-            self.solid_word::<ALL_FLUID>(j + 3),
-        ];
-        let first = G::collide64(first, chi[j]);
-        let second = G::collide64(second, chi[j + 1]);
-        let third = G::collide64(third, chi[j + 2]);
-        let fourth = G::collide64(fourth, chi[j + 3]);
-        write_four_at(
-            words, words_each, dirs, j, first, second, third, fourth, solid,
-        );
+        let solid = self.solid_four(j, all_fluid);
+        write_four_at(words, self.words_each, directions::<G>(), j, planes, solid);
     }
 
-    // Collides the cells of word j.
+    // The solid cells of words `j` to `j + 3`.
     #[inline(always)]
-    fn collide_word<G: Gas, const ALL_FLUID: bool>(&self, words: &mut [u64], j: usize)
-        requires long { length words.old ≡ G.rules.dirs * self.now.words_each }
-        requires fluid { IsTrue ALL_FLUID → IsTrue self.now.all_fluid }
-        requires within { j < self.now.words_each }
-        ensures { AreCollided G.rules self.now j (j + 1) words.old words.new }
+    fn solid_four(&self, j: usize, all_fluid: bool) -> u64x4
+        requires within { j + 4 ≤ max 4 self.now.words_each }
+        requires fluid { IsTrue all_fluid → IsTrue self.now.all_fluid }
+        ensures { (y : ℕ) → 64 * j ≤ y → y < 64 * j + 256 →
+            lanes_hold result (y - 64 * j) ≡ bit self.now.solid.now y }
     {
-        let dirs = directions::<G>();
-        let words_each = self.words_each;
-        let planes = planes_at(words, words_each, dirs, j);
-        let after = G::collide64(planes, self.chi[j]);
-        let solid = self.solid_word::<ALL_FLUID>(j);
-        write_planes_at(words, words_each, dirs, j, after, solid);
+        if all_fluid {
+            u64x4::splat(0)
+        } else {
+            four_at(self.solid, self.words_each, j)
+        }
     }
 }
 

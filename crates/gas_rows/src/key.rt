@@ -6,10 +6,9 @@ ghost use Rattle.rand_chacha.specs.ChaCha.{key_of};
 ghost use Rattle.gas_rows.specs.Key.{key_word, key_bytes, drawn_bit};
 
 use gas_bits::plane::clear_past;
-use gas_bits::word::join_halves;
 use rand_chacha::ChaCha20Rng;
 use rand_core::SeedableRng;
-use rand_core::utils::NextWord;
+use rand_core::utils::{NextWord, next_u64_via_u32};
 
 /// The generator of ChaCha20 (the block function of RFC 8439) under the key of a seed: its 8 bytes,
 /// the least first, and 24 zero bytes.
@@ -59,14 +58,12 @@ fn draw_words(words: &mut [u64], width: u32, generator: &mut ChaCha20Rng)
         bit words.new x ≡ drawn_bit generator.old x }
 {
     let halves = width.div_ceil(32) as usize;
-    for (j, word) in words.iter_mut().enumerate() {
-        let low = generator.next_word();
-        let high = if 2 * j + 1 < halves {
-            generator.next_word()
-        } else {
-            0
-        };
-        *word = join_halves(low, high);
+    let whole = halves / 2;
+    for j in 0..whole {
+        words[j] = next_u64_via_u32(generator);
+    }
+    if halves % 2 == 1 {
+        words[whole] = u64::from(generator.next_word());
     }
 }
 

@@ -1,7 +1,7 @@
 //! Rows: a state for each cell, held as bit planes.
 ghost use Rattle.std.specs.Prelude.{◌≡◌, ◌≢◌, ◌⊎◌, ◌+◌, ◌*◌, ◌/◌, ◌<◌, ◌≤◌, ◌^◌, ℕ, List, length, replicate, slice_index, slice_index_or, slice_set, false, IsTrue, sum_by, if◌then◌else◌, vec_len, IfOk};
 ghost use Rattle.gas_geom.specs.Gas.{holds, particles};
-ghost use Rattle.gas_geom.specs.Channel.{ChannelModel};
+ghost use Rattle.gas_geom.specs.Channel.{ChannelModel, is_solid};
 ghost use Rattle.gas_geom.specs.Lattice.{row_of, streamed};
 ghost use Rattle.gas_bits.specs.Words.{words_in};
 ghost use Rattle.gas_rows.specs.Planes.{AreWordsOf, cells_of};
@@ -234,6 +234,23 @@ impl<G: Gas> Row<G> {
             self.new ≡ row_of channel.width (λ x. streamed G.rules channel at x neighbourhood.now.y) }
     {
         neighbourhood.stream::<G>(&mut self.words);
+    }
+
+    /// Streams into this row, and collides it by these random bits. The neighbourhood and the mask have
+    /// its width.
+    #[inline(always)]
+    pub fn stream_and_collide<'a>(&mut self, neighbourhood: &Neighbourhood<'a>, chi: &Mask)
+        requires wide { neighbourhood.now.width ≡ length self.old }
+        requires rows { AreRowsLong G.rules.dirs neighbourhood.now }
+        requires chi_wide { length chi.now ≡ length self.old }
+        ensures wide { length self.new ≡ length self.old }
+        ensures collided { (channel : ChannelModel) (at : ℕ → ℕ → ℕ) →
+            AreWordsAbout G.rules.dirs channel at neighbourhood.now →
+            self.new ≡ row_of channel.width (λ x. if is_solid channel x neighbourhood.now.y then 0
+            else G.rules.collide (streamed G.rules channel at x neighbourhood.now.y)
+            (slice_index_or chi.now x false)) }
+    {
+        neighbourhood.stream_and_collide::<G>(chi.words(), &mut self.words);
     }
 }
 

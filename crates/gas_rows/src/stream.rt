@@ -1,16 +1,18 @@
 //! The streaming of a row, wherever walls and solid cells are: every particle moves along its link,
 //! or is sent back if the link ends at a solid cell or the wall.
-ghost use Rattle.std.specs.Prelude.{◌≡◌, ◌+◌, ◌*◌, ◌<◌, ◌≤◌, ℕ, false, take, drop, IsTrue, length};
+ghost use Rattle.std.specs.Prelude.{◌≡◌, ◌+◌, ◌*◌, ◌/◌, ◌%◌, ◌<◌, ◌≤◌, ◌==◌, ℕ, false, if◌then◌else◌, max, take, drop, not, IsTrue, length, slice_index};
 ghost use Rattle.gas_geom.specs.declared.size.TheConstants.{MOST_SIDE};
 ghost use Rattle.gas_bits.specs.Words.{words_in, bit};
 ghost use Rattle.gas_rows.specs.Inner.Beside.{row_beside};
 
 use crate::collision::directions;
 use gas_bits::plane::Incoming;
-use gas_bits::stream::stream_plane;
+use gas_bits::planes::{clear_planes_past, write_four_at};
+use gas_bits::stream::{four_at, stream_four};
 use gas_bits::word::words_for;
 use gas_geom::gas::Gas;
 use gas_geom::moves::{Move, moves};
+use std::simd::prelude::*;
 
 /// Row `y` of a channel between the rows beside it, all of them collided: the words of these rows,
 /// those of direction 0 first, and of their solid cells. Past a wall all cells are solid, and the
@@ -62,76 +64,210 @@ fn plane(words: &[u64], dirs: usize, i: u32, words_each: usize) -> &[u64]
     &words[start..start + words_each]
 }
 
-impl<'a> Neighbourhood<'a> {
+// What is the same for all words of a row. The truth values are constants where they are used, so that a
+// compiler leaves out what is not asked for and knows the moves.
+#[derive(Clone, Copy)]
+struct Kernel<'a, 'b> {
+    rows: Neighbourhood<'a>,
+    // The random bits of the collision that follows, if one does.
+    chi: &'b [u64],
+    collides: bool,
+    odd: bool,
+    all_fluid: bool,
+    ghost chi_long: { IsTrue collides → length chi.now ≡ words_in rows.width },
+    ghost odd_is: { odd ≡ (rows.y % 2 == 1) },
+    ghost fluid_is: { IsTrue all_fluid → IsTrue rows.all_fluid },
+}
+
+impl<'a, 'b> Kernel<'a, 'b> {
     ghost use Rattle.gas_geom.specs.Channel.{ChannelModel};
     ghost use Rattle.gas_geom.specs.Lattice.{streamed};
-    ghost use Rattle.gas_bits.specs.Planes.{has, state};
+    ghost use Rattle.gas_geom.specs.Gas.{holds};
+    ghost use Rattle.gas_bits.specs.Planes.{four_has};
     ghost use Rattle.gas_rows.specs.Streaming.{AreWordsAbout, AreRowsLong};
-    ghost use Rattle.gas_rows.specs.Inner.Streaming.{AreStreamed, AreClearBelow};
+    ghost use Rattle.gas_rows.specs.Inner.Streaming.{AreAdvanced};
 
-    // Streams direction `i`, if the gas has it, after those before it. If `all_fluid`, no cell of the
-    // three rows is solid.
+    // Words `j` to `j + 3` of direction `i` after streaming, and zeros if the gas has no such direction.
+    // `first` and `last` say whether they are the row's first and last words.
     #[inline(always)]
-    fn stream_direction<G: Gas>(&self, i: u32, all_fluid: bool, out: &mut [u64])
-        requires rows { AreRowsLong G.rules.dirs self.now }
-        requires fluid { IsTrue all_fluid → IsTrue self.now.all_fluid }
-        requires long { length out.old ≡ G.rules.dirs * words_in self.now.width }
-        ensures long { length out.new ≡ length out.old }
-        ensures clear { AreClearBelow G.rules.dirs self.now.width i out.old →
-            AreClearBelow G.rules.dirs self.now.width (i + 1) out.new }
-        ensures streamed { (channel : ChannelModel) (at : ℕ → ℕ → ℕ) →
-            AreWordsAbout G.rules.dirs channel at self.now →
-            AreStreamed G.rules channel at self.now i out.old →
-            AreStreamed G.rules channel at self.now (i + 1) out.new }
+    fn stream_four<G: Gas>(&self, i: u32, j: usize, first: bool, last: bool) -> u64x4
+        requires rows { AreRowsLong G.rules.dirs self.now.rows }
+        requires within { j + 4 ≤ max 4 (words_in self.now.rows.width) }
+        requires first { IsTrue first → j ≡ 0 }
+        requires after_first { IsTrue (not first) → 1 ≤ j }
+        requires last { IsTrue last → words_in self.now.rows.width ≤ j + 4 }
+        requires before_last { IsTrue (not last) → j + 4 < words_in self.now.rows.width }
+        ensures { (channel : ChannelModel) (at : ℕ → ℕ → ℕ) →
+            AreWordsAbout G.rules.dirs channel at self.now.rows → i < G.rules.dirs → (c : ℕ) → c < 256 →
+            64 * j + c < channel.width → holds (slice_index result (c / 64)) (c % 64)
+            ≡ holds (streamed G.rules channel at (64 * j + c) self.now.rows.y) i }
     {
         if i >= G::DIRS {
-            return;
+            return u64x4::splat(0);
         }
+        let rows = self.rows;
         let dirs = directions::<G>();
-        let words_each = words_for(self.width);
+        let words_each = words_for(rows.width);
         let opposite = G::opposite(i);
-        let (along, down) = moves::<G>(opposite, self.y % 2 == 1);
-        let from = row_beside(down, self.above, self.middle, self.below);
-        let solid_there = row_beside(down, self.solid_above, self.solid_middle, self.solid_below);
+        let (along, down) = moves::<G>(opposite, self.odd);
+        let from = row_beside(down, rows.above, rows.middle, rows.below);
+        let solid_there = row_beside(down, rows.solid_above, rows.solid_middle, rows.solid_below);
         let coming = plane(from, dirs, i, words_each);
-        let opposite_here = plane(self.middle, dirs, opposite, words_each);
+        let opposite_here = plane(rows.middle, dirs, opposite, words_each);
         let incoming = Incoming {
             plane: coming,
             solid_there,
             opposite_here,
-            solid_here: self.solid_middle,
-            width: self.width,
-            all_fluid,
+            solid_here: rows.solid_middle,
+            width: rows.width,
+            all_fluid: self.all_fluid,
         };
-        stream_plane(out, i as usize, along, &incoming);
+        stream_four(along, &incoming, j, first, last)
     }
 
-    // Writes the row after streaming. If `ALL_FLUID`, no cell of the three rows is solid; a type
-    // parameter, so that a compiler leaves the solid cells out.
+    // Words `j` to `j + 3` of each direction after streaming.
     #[inline(always)]
-    fn stream_directions<G: Gas, const ALL_FLUID: bool>(&self, out: &mut [u64])
+    fn stream_planes<G: Gas>(&self, j: usize, first: bool, last: bool) -> [u64x4; 8]
+        requires rows { AreRowsLong G.rules.dirs self.now.rows }
+        requires within { j + 4 ≤ max 4 (words_in self.now.rows.width) }
+        requires first { IsTrue first → j ≡ 0 }
+        requires after_first { IsTrue (not first) → 1 ≤ j }
+        requires last { IsTrue last → words_in self.now.rows.width ≤ j + 4 }
+        requires before_last { IsTrue (not last) → j + 4 < words_in self.now.rows.width }
+        ensures { (channel : ChannelModel) (at : ℕ → ℕ → ℕ) →
+            AreWordsAbout G.rules.dirs channel at self.now.rows → (i c : ℕ) → i < G.rules.dirs → c < 256 →
+            64 * j + c < channel.width → four_has result i c
+            ≡ holds (streamed G.rules channel at (64 * j + c) self.now.rows.y) i }
+    {
+        // Written out: with a constant direction a compiler knows its step.
+        [
+            self.stream_four::<G>(0, j, first, last),
+            self.stream_four::<G>(1, j, first, last),
+            self.stream_four::<G>(2, j, first, last),
+            self.stream_four::<G>(3, j, first, last),
+            self.stream_four::<G>(4, j, first, last),
+            self.stream_four::<G>(5, j, first, last),
+            self.stream_four::<G>(6, j, first, last),
+            self.stream_four::<G>(7, j, first, last),
+        ]
+    }
+
+    // Writes words `j` to `j + 3` of each direction after streaming and the collision that follows, if
+    // one does. Bits past the width are left open.
+    #[inline(always)]
+    fn write_four<G: Gas>(&self, j: usize, first: bool, last: bool, out: &mut [u64])
+        requires rows { AreRowsLong G.rules.dirs self.now.rows }
+        requires within { j + 4 ≤ max 4 (words_in self.now.rows.width) }
+        requires first { IsTrue first → j ≡ 0 }
+        requires after_first { IsTrue (not first) → 1 ≤ j }
+        requires last { IsTrue last → words_in self.now.rows.width ≤ j + 4 }
+        requires before_last { IsTrue (not last) → j + 4 < words_in self.now.rows.width }
+        requires long { length out.old ≡ G.rules.dirs * words_in self.now.rows.width }
+        ensures long { length out.new ≡ length out.old }
+        ensures advanced { (channel : ChannelModel) (at : ℕ → ℕ → ℕ) →
+            AreWordsAbout G.rules.dirs channel at self.now.rows →
+            AreAdvanced G.rules channel at self.now j (j + 4) out.old out.new }
+    {
+        let dirs = directions::<G>();
+        let words_each = words_for(self.rows.width);
+        let streamed = self.stream_planes::<G>(j, first, last);
+        let planes = if self.collides {
+            G::collide_planes(streamed, four_at(self.chi, words_each, j))
+        } else {
+            streamed
+        };
+        write_four_at(out, words_each, dirs, j, planes, u64x4::splat(0));
+    }
+
+    // Writes all words of a row of at least four words of each direction. The last four lie over those
+    // before them, which the row written never is read for.
+    #[inline(always)]
+    fn write_row<G: Gas>(&self, out: &mut [u64])
+        requires rows { AreRowsLong G.rules.dirs self.now.rows }
+        requires many { 4 ≤ words_in self.now.rows.width }
+        requires long { length out.old ≡ G.rules.dirs * words_in self.now.rows.width }
+        ensures long { length out.new ≡ length out.old }
+        ensures advanced { (channel : ChannelModel) (at : ℕ → ℕ → ℕ) →
+            AreWordsAbout G.rules.dirs channel at self.now.rows →
+            AreAdvanced G.rules channel at self.now 0 (words_in self.now.rows.width) out.old out.new }
+    {
+        let words_each = words_for(self.rows.width);
+        if words_each == 4 {
+            self.write_four::<G>(0, true, true, out);
+            return;
+        }
+        self.write_four::<G>(0, true, false, out);
+        for k in 1..(words_each - 1) / 4 {
+            self.write_four::<G>(4 * k, false, false, out);
+        }
+        self.write_four::<G>(words_each - 4, false, true, out);
+    }
+}
+
+impl<'a> Neighbourhood<'a> {
+    ghost use Rattle.gas_geom.specs.Channel.{ChannelModel, is_solid};
+    ghost use Rattle.gas_geom.specs.Lattice.{streamed};
+    ghost use Rattle.gas_bits.specs.Planes.{has, state};
+    ghost use Rattle.gas_rows.specs.Streaming.{AreWordsAbout, AreRowsLong};
+    ghost use Rattle.gas_rows.specs.Inner.Streaming.{advanced_state};
+
+    // What is the same for all words. `odd` is the row's parity.
+    #[inline(always)]
+    fn kernel<'b>(
+        &self,
+        chi: &'b [u64],
+        collides: bool,
+        odd: bool,
+        all_fluid: bool,
+    ) -> Kernel<'a, 'b>
+        requires chi_long { IsTrue collides → length chi.now ≡ words_in self.now.width }
+        requires odd_is { odd ≡ (self.now.y % 2 == 1) }
+        requires fluid_is { IsTrue all_fluid → IsTrue self.now.all_fluid }
+        ensures rows { result.rows ≡ self.now }
+        ensures chi { result.chi.now ≡ chi.now }
+        ensures collides { result.collides ≡ collides }
+    {
+        Kernel {
+            rows: *self,
+            chi,
+            collides,
+            odd,
+            all_fluid,
+        }
+    }
+
+    // Writes the words of the row after streaming and the collision that follows, if one does.
+    #[inline(always)]
+    fn advance<G: Gas>(&self, chi: &[u64], collides: bool, out: &mut [u64])
         requires rows { AreRowsLong G.rules.dirs self.now }
-        requires fluid { IsTrue ALL_FLUID → IsTrue self.now.all_fluid }
+        requires chi_long { IsTrue collides → length chi.now ≡ words_in self.now.width }
         requires long { length out.old ≡ G.rules.dirs * words_in self.now.width }
         ensures long { length out.new ≡ length out.old }
-        ensures clear { AreClearBelow G.rules.dirs self.now.width 8 out.new }
-        ensures streamed { (channel : ChannelModel) (at : ℕ → ℕ → ℕ) →
-            AreWordsAbout G.rules.dirs channel at self.now →
-            AreStreamed G.rules channel at self.now 8 out.new }
+        ensures clear { (i x : ℕ) → i < G.rules.dirs → self.now.width ≤ x →
+            x < 64 * words_in self.now.width →
+            has out.new (words_in self.now.width) i x ≡ false }
+        ensures advanced { (channel : ChannelModel) (at : ℕ → ℕ → ℕ) →
+            AreWordsAbout G.rules.dirs channel at self.now → (x : ℕ) → x < channel.width →
+            state out.new (words_in self.now.width) G.rules.dirs x
+            ≡ advanced_state G.rules collides (streamed G.rules channel at x self.now.y) (bit chi.now x) }
     {
-        // Unrolled by hand: with a constant direction a compiler knows its step.
-        self.stream_direction::<G>(0, ALL_FLUID, out);
-        self.stream_direction::<G>(1, ALL_FLUID, out);
-        self.stream_direction::<G>(2, ALL_FLUID, out);
-        self.stream_direction::<G>(3, ALL_FLUID, out);
-        self.stream_direction::<G>(4, ALL_FLUID, out);
-        self.stream_direction::<G>(5, ALL_FLUID, out);
-        self.stream_direction::<G>(6, ALL_FLUID, out);
-        self.stream_direction::<G>(7, ALL_FLUID, out);
+        let odd = self.y % 2 == 1;
+        if words_for(self.width) < 4 {
+            self.kernel(chi, collides, odd, self.all_fluid)
+                .write_four::<G>(0, true, true, out);
+        } else {
+            match (odd, self.all_fluid) {
+                (false, false) => self.kernel(chi, collides, false, false).write_row::<G>(out),
+                (false, true) => self.kernel(chi, collides, false, true).write_row::<G>(out),
+                (true, false) => self.kernel(chi, collides, true, false).write_row::<G>(out),
+                (true, true) => self.kernel(chi, collides, true, true).write_row::<G>(out),
+            }
+        }
+        clear_planes_past(out, directions::<G>(), self.width);
     }
 
     /// Writes the words of the row after streaming. Bits past the width are 0.
-    #[inline(always)]
+    #[inline(never)]
     pub fn stream<G: Gas>(&self, out: &mut [u64])
         requires rows { AreRowsLong G.rules.dirs self.now }
         requires long { length out.old ≡ G.rules.dirs * words_in self.now.width }
@@ -144,10 +280,29 @@ impl<'a> Neighbourhood<'a> {
             state out.new (words_in self.now.width) G.rules.dirs x
             ≡ streamed G.rules channel at x self.now.y }
     {
-        if self.all_fluid {
-            self.stream_directions::<G, true>(out);
-        } else {
-            self.stream_directions::<G, false>(out);
-        }
+        // A copy, so that a compiler knows that no store through `out` changes it.
+        let rows = *self;
+        rows.advance::<G>(&[], false, out);
+    }
+
+    /// Writes the words of the row after streaming and the collision that follows, by these random
+    /// bits. Bits past the width are 0.
+    #[inline(never)]
+    pub fn stream_and_collide<G: Gas>(&self, chi: &[u64], out: &mut [u64])
+        requires rows { AreRowsLong G.rules.dirs self.now }
+        requires chi_long { length chi.now ≡ words_in self.now.width }
+        requires long { length out.old ≡ G.rules.dirs * words_in self.now.width }
+        ensures long { length out.new ≡ length out.old }
+        ensures clear { (i x : ℕ) → i < G.rules.dirs → self.now.width ≤ x →
+            x < 64 * words_in self.now.width →
+            has out.new (words_in self.now.width) i x ≡ false }
+        ensures collided { (channel : ChannelModel) (at : ℕ → ℕ → ℕ) →
+            AreWordsAbout G.rules.dirs channel at self.now → (x : ℕ) → x < channel.width →
+            state out.new (words_in self.now.width) G.rules.dirs x
+            ≡ (if is_solid channel x self.now.y then 0
+            else G.rules.collide (streamed G.rules channel at x self.now.y) (bit chi.now x)) }
+    {
+        let rows = *self;
+        rows.advance::<G>(chi, true, out);
     }
 }

@@ -1,9 +1,9 @@
 -- Stages one behind another, as a list: a step of the one at place k, and what it means for those from k on.
-use Rattle.std.proofs.Common.{◌≡◌, ℕ, zero, suc, ◌+◌, ◌-◌, ◌<◌, ◌≤◌, Option, Some, None, IsSome, List, [], ◌∷◌, ◌++◌, length, map, take, drop, get_or, set, ap, ◌∙◌, sym, refl, subst, arith, add-one, append-nil}
+use Rattle.std.proofs.Common.{◌≡◌, ℕ, zero, suc, ◌+◌, ◌-◌, ◌<◌, ◌≤◌, Option, Some, None, IsSome, option_map, List, [], ◌∷◌, ◌++◌, length, map, take, drop, get_or, set, ap, ◌∙◌, sym, refl, subst, arith, add-one, append-nil}
 use Rattle.std.specs.Option.{option_to_list}
 use Rattle.std.specs.List.{range_with_len}
 use Rattle.std.proofs.Math.Seq.{drop-cons}
-use Rattle.std.proofs.lemmas.List.{length-append, length-take, drop-set-lt}
+use Rattle.std.proofs.lemmas.List.{length_push, length-take, drop-set-lt, drop_all}
 use Rattle.gas_geom.specs.Gas.{Rules}
 use Rattle.gas_geom.specs.Channel.{ChannelModel}
 use Rattle.gas_geom.specs.Lattice.{next}
@@ -11,6 +11,7 @@ use Rattle.gas_rows.specs.Chirality.{chirality_bit}
 use Rattle.gas_rows.specs.declared.chirality.Chirality.{Chirality}
 use Rattle.gas_stage.specs.Stage.{StageModel, MayHaveBeenFed, given, owed}
 use Rattle.gas_stage.specs.Stages.{MayEachHaveBeenFed, given_by, owed_by}
+use Rattle.gas_stage.specs.Inner.Passes.{kept, first_does, Returned}
 use Rattle.gas_stage.specs.Inner.Stages.{AreClosed, IsUnderWay}
 use Rattle.gas_stage.proofs.Owed.{owed-all}
 
@@ -33,6 +34,16 @@ written xs new k x low e = rw add-one (written_suc xs new k x low (rw add-one at
 -- the items from k on begin with the one there
 from_here : {A : Type 0} (xs : List A) (k : ℕ) (d : A) → k < length xs → drop k xs ≡ get_or xs k d ∷ drop (k + 1) xs
 from_here xs k d low = rw add-one (drop-cons xs k d low)
+
+-- a stage that returned a row had given fewer
+some_more : (gas : Rules) (c : ChannelModel) (h : Chirality) (does : Option ℕ) (before after : List (List ℕ)) (r : List ℕ) →
+    Returned gas c h does before after (Some r) → length after ≡ length before + 1
+some_more gas c h does before after r back = by back.row back.more back.is
+  where
+    by : (row : Option (List ℕ)) → after ≡ before ++ option_to_list row → Some r ≡ option_map (kept gas c h does (length before)) row →
+        length after ≡ length before + 1
+    by None more is = absurd (let no_row = is in cc)
+    by (Some row) more is = ap (λ (l : List (List ℕ)). length l) more ∙ length_push before row
 
 module _ (gas : Rules) (c : ChannelModel) (h : Chirality) where
   abbrev Each : ℕ → List StageModel → List (Option ℕ) → List (List ℕ) → Type 0
@@ -85,10 +96,38 @@ module _ (gas : Rules) (c : ChannelModel) (h : Chirality) where
       (closed.0, closed.1, closed.2, closed-push stages s closed.3 channel chirality none)
 
   -- nothing goes into stages that are fed nothing
-  pub none_behind : (stages : List StageModel) (es : List (Option ℕ)) (q : List (List ℕ)) → Each 0 stages es q →
-      Each 0 stages es (q ++ []) × (given_by gas c h 0 es (q ++ []) ≡ given_by gas c h 0 es q ++ [])
-  none_behind stages es q fed =
+  pub none_behind : (stages : List StageModel) (es : List (Option ℕ)) (q : List (List ℕ)) (r : Option (List ℕ)) → Each 0 stages es q →
+      None ≡ option_map (kept gas c h (first_does es) (length q)) r →
+      Each 0 stages es (q ++ option_to_list r) × (given_by gas c h 0 es (q ++ option_to_list r) ≡ given_by gas c h 0 es q ++ [])
+  none_behind stages es q None fed e =
       (subst (Each 0 stages es) (sym (append-nil q)) fed, ap (given_by gas c h 0 es) (append-nil q) ∙ sym (append-nil (given_by gas c h 0 es q)))
+  none_behind stages es q (Some r) fed e = cc
+
+  -- one that is returned goes into those behind
+  pub one_behind : (stages new : List StageModel) (x : List ℕ) (result : Option (List ℕ)) →
+      ((es : List (Option ℕ)) (q : List (List ℕ)) (r : List ℕ) → Each 0 stages es q → x ≡ kept gas c h (first_does es) (length q) r →
+      Each 0 new es (q ++ r ∷ []) × (given_by gas c h 0 es (q ++ r ∷ []) ≡ given_by gas c h 0 es q ++ option_to_list result)) →
+      (es : List (Option ℕ)) (q : List (List ℕ)) (r : Option (List ℕ)) → Each 0 stages es q → Some x ≡ option_map (kept gas c h (first_does es) (length q)) r →
+      Each 0 new es (q ++ option_to_list r) × (given_by gas c h 0 es (q ++ option_to_list r) ≡ given_by gas c h 0 es q ++ option_to_list result)
+  one_behind stages new x result later es q None fed e = absurd (let no_row = e in cc)
+  one_behind stages new x result later es q (Some r) fed e = later es q r fed (cc)
+
+  -- what the first of stages does
+  pub first_is : (stages : List StageModel) (k : ℕ) (d : StageModel) (es : List (Option ℕ)) (q : List (List ℕ)) → k < length stages → Each 0 (drop k stages) es q →
+      (get_or stages k d).pass ≡ Some (first_does es)
+  first_is stages k d es q low fed = by es (subst (λ (l : List StageModel). Each 0 l es q) (from_here stages k d low) fed)
+    where
+      by : (es : List (Option ℕ)) → Each 0 (get_or stages k d ∷ drop (k + 1) stages) es q → (get_or stages k d).pass ≡ Some (first_does es)
+      by [] fed = absurd fed
+      by (p ∷ es) fed = fed.2.pass
+
+  pub none_is_first : (stages : List StageModel) (k : ℕ) (es : List (Option ℕ)) (q : List (List ℕ)) → length stages ≤ k → Each 0 (drop k stages) es q →
+      first_does es ≡ None
+  none_is_first stages k es q past fed = by es (subst (λ (l : List StageModel). Each 0 l es q) (drop_all k stages past) fed)
+    where
+      by : (es : List (Option ℕ)) → Each 0 [] es q → first_does es ≡ None
+      by [] fed = refl
+      by (p ∷ es) fed = absurd fed
 
   -- The stages from k on, when all rows were fed and those before were flushed: what a flush of stage k means for all of them.
   record IsBehind (k : ℕ) (stages : List StageModel) (es : List (Option ℕ)) (q : List (List ℕ)) : Type 0 where
@@ -178,17 +217,17 @@ module _ (gas : Rules) (c : ChannelModel) (h : Chirality) where
           )
 
       -- the stages behind it can be fed what its flush returned
-      pub can_be_fed : (r : List ℕ) →
+      pub can_be_fed : (does : Option ℕ) (r : List ℕ) →
           ((p : Option ℕ) (q : List (List ℕ)) → MayHaveBeenFed gas s p q →
-          owed gas s.channel s.chirality p q ≡ given gas s.channel s.chirality p q ++ r ∷ []) → IsUnderWay gas c h 0 c.height (drop k stages) →
-          (m : ℕ) × (IsUnderWay gas c h 0 m (drop (k + 1) (set stages k s')) × (m < c.height))
-      can_be_fed r gives way = by way.es way.q (sym way.fed_is) (subst (λ (l : List StageModel). Each 0 l way.es way.q) here way.fits)
+          Returned gas s.channel s.chirality does (given gas s.channel s.chirality p q) (owed gas s.channel s.chirality p q) (Some r)) →
+          IsUnderWay gas c h 0 c.height (drop k stages) → (m : ℕ) × (IsUnderWay gas c h 0 m (drop (k + 1) (set stages k s')) × (m < c.height))
+      can_be_fed does r gives way = by way.es way.q (sym way.fed_is) (subst (λ (l : List StageModel). Each 0 l way.es way.q) here way.fits)
         where
           by : (es : List (Option ℕ)) (q : List (List ℕ)) → length q ≡ c.height → Each 0 (s ∷ drop (k + 1) stages) es q →
               (m : ℕ) × (IsUnderWay gas c h 0 m (drop (k + 1) (set stages k s')) × (m < c.height))
           by [] q high fed = absurd fed
           by (p ∷ es) q high fed =
-              let owes : owed gas c h p q ≡ given gas c h p q ++ r ∷ [] = rw (fed.0, fed.1) at (gives p q fed.2) in (
+              let back : Returned gas c h does (given gas c h p q) (owed gas c h p q) (Some r) = rw (fed.0, fed.1) at (gives p q fed.2) in (
                 length (given gas c h p q),
                 (
                   record {
@@ -197,7 +236,7 @@ module _ (gas : Rules) (c : ChannelModel) (h : Chirality) where
                     fed_is = refl;
                     fits = subst (λ (l : List StageModel). Each 0 l es (given gas c h p q)) (sym behind) fed.3;
                   },
-                  omega (arith, ap (λ (l : List (List ℕ)). length l) owes, length-append (given gas c h p q) (r ∷ []), owed-all gas c h p q high),
+                  omega (arith, some_more gas c h does _ _ r back, owed-all gas c h p q high),
                 ),
               )
 
@@ -220,45 +259,50 @@ module _ (gas : Rules) (c : ChannelModel) (h : Chirality) where
                   (subst (λ (l : List StageModel). Each 0 (drop (k + 1) new) (map f (range_with_len (k + 1) (length l))) []) behind rest),
             ))
 
-        module _ (row : List ℕ) (o : Option (List ℕ)) (channel : s'.channel ≡ s.channel) (chirality : s'.chirality ≡ s.chirality)
-            (fits : (p : Option ℕ) (q : List (List ℕ)) → MayHaveBeenFed gas s p q → MayHaveBeenFed gas s' p (q ++ row ∷ []))
-            (gives : (p : Option ℕ) (q : List (List ℕ)) → MayHaveBeenFed gas s p q →
-            given gas s.channel s.chirality p (q ++ row ∷ []) ≡ given gas s.channel s.chirality p q ++ option_to_list o) where
-          gives_here : (p : Option ℕ) (q : List (List ℕ)) → s.channel ≡ c → s.chirality ≡ h → MayHaveBeenFed gas s p q →
-              given gas c h p (q ++ row ∷ []) ≡ given gas c h p q ++ option_to_list o
-          gives_here p q e f m = rw (e, f) at (gives p q m)
+        module _ (o result : Option (List ℕ)) (does : Option ℕ) (channel : s'.channel ≡ s.channel) (chirality : s'.chirality ≡ s.chirality)
+            (first : (es : List (Option ℕ)) (q : List (List ℕ)) → Each 0 (drop (k + 1) stages) es q → does ≡ first_does es)
+            (later : (es : List (Option ℕ)) (q : List (List ℕ)) (r : Option (List ℕ)) → Each 0 (drop (k + 1) (set stages k s')) es q →
+            o ≡ option_map (kept gas c h (first_does es) (length q)) r →
+            Each 0 (drop (k + 1) new) es (q ++ option_to_list r)
+            × (given_by gas c h 0 es (q ++ option_to_list r) ≡ given_by gas c h 0 es q ++ option_to_list result)) where
+          -- what it returned goes into those behind it
+          goes_on : (es : List (Option ℕ)) (before after : List (List ℕ)) → Returned gas c h does before after o → Each 0 (drop (k + 1) stages) es before →
+              Each 0 (drop (k + 1) new) es after × (given_by gas c h 0 es after ≡ given_by gas c h 0 es before ++ option_to_list result)
+          goes_on es before after back fed =
+              subst (λ (l : List (List ℕ)). Each 0 (drop (k + 1) new) es l × (given_by gas c h 0 es l ≡ given_by gas c h 0 es before ++ option_to_list result))
+              (sym back.more)
+              (later es before back.row (subst (λ (l : List StageModel). Each 0 l es before) (sym behind) fed)
+              (back.is ∙ ap (λ p. option_map (kept gas c h p (length before)) back.row) (first es before fed)))
 
-          -- a row goes into it, and what it returns into those behind it
-          pub feeds : (result : Option (List ℕ)) →
-              ((es : List (Option ℕ)) (q : List (List ℕ)) → Each 0 (drop (k + 1) (set stages k s')) es q →
-              Each 0 (drop (k + 1) new) es (q ++ option_to_list o)
-              × (given_by gas c h 0 es (q ++ option_to_list o) ≡ given_by gas c h 0 es q ++ option_to_list result)) →
-              (es : List (Option ℕ)) (q : List (List ℕ)) → Each 0 (drop k stages) es q →
-              Each 0 (drop k new) es (q ++ row ∷ []) × (given_by gas c h 0 es (q ++ row ∷ []) ≡ given_by gas c h 0 es q ++ option_to_list result)
-          feeds result later es q was = by es (subst (λ (l : List StageModel). Each 0 l es q) here was)
+          -- a row goes into it
+          pub passes : (row : List ℕ) →
+              ((p : Option ℕ) (q : List (List ℕ)) (r : List ℕ) → MayHaveBeenFed gas s p q → row ≡ kept gas s.channel s.chirality p (length q) r →
+              MayHaveBeenFed gas s' p (q ++ r ∷ [])) →
+              ((p : Option ℕ) (q : List (List ℕ)) (r : List ℕ) → MayHaveBeenFed gas s p q → row ≡ kept gas s.channel s.chirality p (length q) r →
+              Returned gas s.channel s.chirality does (given gas s.channel s.chirality p q) (given gas s.channel s.chirality p (q ++ r ∷ [])) o) →
+              (es : List (Option ℕ)) (q : List (List ℕ)) (r : List ℕ) → Each 0 (drop k stages) es q → row ≡ kept gas c h (first_does es) (length q) r →
+              Each 0 (drop k new) es (q ++ r ∷ []) × (given_by gas c h 0 es (q ++ r ∷ []) ≡ given_by gas c h 0 es q ++ option_to_list result)
+          passes row fits gives es q r was = by es (subst (λ (l : List StageModel). Each 0 l es q) here was)
             where
-              by : (es : List (Option ℕ)) → Each 0 (s ∷ drop (k + 1) stages) es q →
-                  Each 0 (drop k new) es (q ++ row ∷ []) × (given_by gas c h 0 es (q ++ row ∷ []) ≡ given_by gas c h 0 es q ++ option_to_list result)
-              by [] fed = absurd fed
-              by (p ∷ es) fed =
-                  let gave = gives_here p q fed.0 fed.1 fed.2 in
-                  let both = later es (given gas c h p q) (subst (λ (l : List StageModel). Each 0 l es (given gas c h p q)) (sym behind) fed.3) in (
-                    subst (λ (l : List StageModel). Each 0 l (p ∷ es) (q ++ row ∷ [])) (sym here')
-                        (channel ∙ fed.0, chirality ∙ fed.1, fits p q fed.2, subst (Each 0 (drop (k + 1) new) es) (sym gave) both.0),
-                    ap (given_by gas c h 0 es) gave ∙ both.1,
+              by : (es : List (Option ℕ)) → Each 0 (s ∷ drop (k + 1) stages) es q → row ≡ kept gas c h (first_does es) (length q) r →
+                  Each 0 (drop k new) es (q ++ r ∷ []) × (given_by gas c h 0 es (q ++ r ∷ []) ≡ given_by gas c h 0 es q ++ option_to_list result)
+              by [] fed enters = absurd fed
+              by (p ∷ es) fed enters =
+                  let enters_here : row ≡ kept gas s.channel s.chirality p (length q) r = rw (fed.0, fed.1) enters in
+                  let back : Returned gas c h does (given gas c h p q) (given gas c h p (q ++ r ∷ [])) o = rw (fed.0, fed.1) at (gives p q r fed.2 enters_here) in
+                  let both = goes_on es (given gas c h p q) (given gas c h p (q ++ r ∷ [])) back fed.3 in (
+                    subst (λ (l : List StageModel). Each 0 l (p ∷ es) (q ++ r ∷ [])) (sym here')
+                        (channel ∙ fed.0, chirality ∙ fed.1, fits p q r fed.2 enters_here, both.0),
+                    both.1,
                   )
 
-        module _ (o : Option (List ℕ)) (channel : s'.channel ≡ s.channel) (chirality : s'.chirality ≡ s.chirality) (closed : s'.pass ≡ None)
-            (gives : (p : Option ℕ) (q : List (List ℕ)) → MayHaveBeenFed gas s p q →
-            owed gas s.channel s.chirality p q ≡ given gas s.channel s.chirality p q ++ option_to_list o) where
-          -- it is flushed, and what it returns goes into those behind it
-          pub flushes : (result : Option (List ℕ)) →
-              ((es : List (Option ℕ)) (q : List (List ℕ)) → Each 0 (drop (k + 1) (set stages k s')) es q →
-              Each 0 (drop (k + 1) new) es (q ++ option_to_list o)
-              × (given_by gas c h 0 es (q ++ option_to_list o) ≡ given_by gas c h 0 es q ++ option_to_list result)) →
+          -- it is flushed
+          pub flushes : s'.pass ≡ None →
+              ((p : Option ℕ) (q : List (List ℕ)) → MayHaveBeenFed gas s p q →
+              Returned gas s.channel s.chirality does (given gas s.channel s.chirality p q) (owed gas s.channel s.chirality p q) o) →
               (es : List (Option ℕ)) (q : List (List ℕ)) → Each k stages es q → length q ≡ c.height →
               Each (k + 1) new es q × (given_by gas c h (k + 1) es q ≡ given_by gas c h k es q ++ option_to_list result)
-          flushes result later es q was all =
+          flushes closed gives es q was all =
               let b = behind_flushed k stages es q was all low in
               let both = by b.behind_es b.behind_q b.all (subst (λ (l : List StageModel). Each 0 l b.behind_es b.behind_q) here b.fits) in
               rw add-one (b.after new (written stages new k s' low same).0 both.0, b.gives (option_to_list result) both.1)
@@ -267,11 +311,10 @@ module _ (gas : Rules) (c : ChannelModel) (h : Chirality) where
                   Each 1 (drop k new) es q × (given_by gas c h 1 es q ≡ given_by gas c h 0 es q ++ option_to_list result)
               by [] q high fed = absurd fed
               by (p ∷ es) q high fed =
-                  let owes : owed gas c h p q ≡ given gas c h p q ++ option_to_list o = rw (fed.0, fed.1) at (gives p q fed.2) in
-                  let both = later es (given gas c h p q) (subst (λ (l : List StageModel). Each 0 l es (given gas c h p q)) (sym behind) fed.3) in (
-                    subst (λ (l : List StageModel). Each 1 l (p ∷ es) q) (sym here')
-                        (channel ∙ fed.0, chirality ∙ fed.1, closed, high, subst (Each 0 (drop (k + 1) new) es) (sym owes) both.0),
-                    ap (given_by gas c h 0 es) owes ∙ both.1,
+                  let back : Returned gas c h does (given gas c h p q) (owed gas c h p q) o = rw (fed.0, fed.1) at (gives p q fed.2) in
+                  let both = goes_on es (given gas c h p q) (owed gas c h p q) back fed.3 in (
+                    subst (λ (l : List StageModel). Each 1 l (p ∷ es) q) (sym here') (channel ∙ fed.0, chirality ∙ fed.1, closed, high, both.0),
+                    both.1,
                   )
 
 -- the same under equal names

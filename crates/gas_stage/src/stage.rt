@@ -1,13 +1,15 @@
 //! A stage: it computes the step from one generation to the next row by row, and keeps three rows.
-ghost use Rattle.std.specs.Prelude.{◌≡◌, ◌+◌, ◌<◌, ◌≤◌, ◌++◌, ◌∷◌, ℕ, [], List, length, Option, Some, None, IsSome, IfSome, IfOk, IsTrue, ◌↔◌};
-ghost use Rattle.std.specs.Option.{option_to_list};
+ghost use Rattle.std.specs.Prelude.{◌≡◌, ◌+◌, ◌<◌, ◌≤◌, ◌++◌, ◌∷◌, ℕ, [], List, length, Option, Some, None, IsSome, IfSome, IfOk, IsTrue, ◌↔◌, option_map};
+ghost use Rattle.std.specs.Option.{option_to_list, option_copied};
 ghost use Rattle.gas_geom.specs.Channel.{IsChannel};
 ghost use Rattle.gas_stage.specs.Stage.{StageModel, MayHaveBeenFed, owed, given};
+ghost use Rattle.gas_stage.specs.Inner.Passes.{AreBitsOf, kept, Returned};
 
 use crate::stream::stream_between;
 use gas_geom::gas::Gas;
 use gas_rows::channel::Channel;
 use gas_rows::chirality::{Chirality, RandomBits};
+use gas_rows::mask::Mask;
 use gas_rows::row::{Row, collide_row};
 use std::alloc::{AllocError, Global};
 use std::marker::Model;
@@ -19,6 +21,53 @@ enum Mode {
     Closed,
     HandsOn,
     Computes(u64),
+}
+
+// Draws the random bits of row `y` for the step from a generation, if one is given.
+#[inline(always)]
+fn draw_if<G: Gas>(bits: &mut RandomBits, generation: Option<u64>, y: u32)
+    ensures chirality { bits.new.chirality ≡ bits.old.chirality }
+    ensures wide { length bits.new.bits ≡ length bits.old.bits }
+    ensures drawn { (g : ℕ) → generation ≡ Some g → AreBitsOf G.rules bits.old.chirality
+        (length bits.old.bits) g y bits.new.bits }
+{
+    if let Some(generation) = generation {
+        bits.draw_for::<G>(generation, y);
+    }
+}
+
+// The bits that were drawn last, if they are for a generation.
+#[inline(always)]
+fn mask_if(bits: &RandomBits, generation: Option<u64>) -> Option<&Mask>
+    ensures { option_copied result ≡ option_map (λ _. bits.now.bits) generation }
+{
+    match generation {
+        Some(_) => Some(bits.mask()),
+        None => None,
+    }
+}
+
+/// Collides a row as row `y` in the step from a generation, if one is given.
+#[inline(always)]
+pub(crate) fn collide_if<G: Gas>(
+    channel: &Channel,
+    bits: &mut RandomBits,
+    generation: Option<u64>,
+    y: u32,
+    row: &mut Row<G>,
+)
+    requires row { y < channel.now.height }
+    requires wide { length row.old ≡ channel.now.width }
+    requires bits_wide { length bits.old.bits ≡ channel.now.width }
+    ensures chirality { bits.new.chirality ≡ bits.old.chirality }
+    ensures bits_wide { length bits.new.bits ≡ length bits.old.bits }
+    ensures wide { length row.new ≡ channel.now.width }
+    ensures kept { row.new ≡ kept G.rules channel.now bits.old.chirality generation y row.old }
+{
+    if let Some(generation) = generation {
+        bits.draw_for::<G>(generation, y);
+        collide_row(row, channel.mask(y), bits.mask());
+    }
 }
 
 /// A stage of one channel. In a pass it is fed the rows of a lattice from the top, and either
@@ -71,7 +120,7 @@ impl<'a, G: Gas> Model for Stage<'a, G> {
 }
 
 impl<'a, G: Gas> Stage<'a, G> {
-    /// A stage with no open pass. It takes all its memory here: two rows and the random bits of a
+    /// A stage with no open pass. It takes its memory here: two rows and the random bits of a
     /// row.
     pub fn new(
         alloc: Global,
@@ -127,24 +176,84 @@ impl<'a, G: Gas> Stage<'a, G> {
             given G.rules self.old.channel self.old.chirality p (q ++ row ∷ [])
             ≡ given G.rules self.old.channel self.old.chirality p q ++ option_to_list result }
     {
+        self.collide(&mut row);
+        self.pass_on(row, None)
+    }
+
+    // Collides the row that is fed next, if the stage computes.
+    #[inline(always)]
+    fn collide(&mut self, row: &mut Row<G>)
+        requires room { self.old.fed < self.old.channel.height }
+        requires wide { length row.old ≡ self.old.channel.width }
+        ensures same { self.new ≡ self.old }
+        ensures wide { length row.new ≡ self.old.channel.width }
+        ensures kept { (p : Option ℕ) → self.old.pass ≡ Some p → row.new
+            ≡ kept G.rules self.old.channel self.old.chirality p self.old.fed row.old }
+    {
+        let generation = self.generation();
+        collide_if(
+            self.channel,
+            &mut self.random_bits,
+            generation,
+            self.fed,
+            row,
+        );
+    }
+
+    /// The generation from which it computes the step in the open pass, if it does.
+    #[inline(always)]
+    pub(crate) fn generation(&self) -> Option<u64>
+        ensures { (p : Option ℕ) → self.now.pass ≡ Some p → result ≡ p }
+    {
+        match self.mode {
+            Mode::Computes(generation) => Some(generation),
+            _ => None,
+        }
+    }
+
+    /// Takes the next row of the open pass, collided if the stage computes, and returns what `feed`
+    /// returns, collided for the step from a later generation if one is given.
+    #[inline(always)]
+    pub(crate) fn pass_on(&mut self, mut row: Row<G>, then: Option<u64>) -> Option<Row<G>>
+        requires open { IsSome self.old.pass }
+        requires room { self.old.fed < self.old.channel.height }
+        requires wide { length row ≡ self.old.channel.width }
+        ensures channel { self.new.channel ≡ self.old.channel }
+        ensures chirality { self.new.chirality ≡ self.old.chirality }
+        ensures pass { self.new.pass ≡ self.old.pass }
+        ensures fed { self.new.fed ≡ self.old.fed + 1 }
+        ensures passes_on { self.old.pass ≡ Some None → then ≡ None → result ≡ Some row }
+        ensures wide { IfSome result (λ r. length r ≡ self.old.channel.width) }
+        ensures fits { (p : Option ℕ) (q : List (List ℕ)) (r : List ℕ) →
+            MayHaveBeenFed G.rules self.old p q →
+            row ≡ kept G.rules self.old.channel self.old.chirality p (length q) r →
+            MayHaveBeenFed G.rules self.new p (q ++ r ∷ []) }
+        ensures gives { (p : Option ℕ) (q : List (List ℕ)) (r : List ℕ) →
+            MayHaveBeenFed G.rules self.old p q →
+            row ≡ kept G.rules self.old.channel self.old.chirality p (length q) r →
+            Returned G.rules self.old.channel self.old.chirality then
+            (given G.rules self.old.channel self.old.chirality p q)
+            (given G.rules self.old.channel self.old.chirality p (q ++ r ∷ [])) result }
+    {
         let y = self.fed;
         self.fed += 1;
-        let Mode::Computes(generation) = self.mode else {
+        let Mode::Computes(_) = self.mode else {
+            collide_if(self.channel, &mut self.random_bits, then, y, &mut row);
             return Some(row);
         };
-        self.random_bits.draw_for::<G>(generation, y);
-        collide_row(&mut row, self.channel.mask(y), self.random_bits.mask());
         let Some(last) = self.last.take() else {
             self.last = Some(row);
             return None;
         };
         let above = mem::replace(&mut self.before_last, last);
         let out = mem::replace(&mut self.oldest, above);
+        draw_if::<G>(&mut self.random_bits, then, y - 1);
         let given = stream_between(
             self.channel,
             y - 1,
             (&self.oldest, &self.before_last, &row),
             out,
+            mask_if(&self.random_bits, then),
         );
         self.last = Some(row);
         Some(given)
@@ -165,18 +274,39 @@ impl<'a, G: Gas> Stage<'a, G> {
             owed G.rules self.old.channel self.old.chirality p q
             ≡ given G.rules self.old.channel self.old.chirality p q ++ option_to_list result }
     {
+        self.end(None)
+    }
+
+    /// Closes the open pass as `flush` does, and returns the same row, collided for the step from a
+    /// later generation if one is given.
+    pub(crate) fn end(&mut self, then: Option<u64>) -> Option<Row<G>>
+        requires open { IsSome self.old.pass }
+        requires all { self.old.fed ≡ self.old.channel.height }
+        ensures channel { self.new.channel ≡ self.old.channel }
+        ensures chirality { self.new.chirality ≡ self.old.chirality }
+        ensures closed { self.new.pass ≡ None }
+        ensures none_fed { self.new.fed ≡ 0 }
+        ensures passes_on { self.old.pass ≡ Some None → result ≡ None }
+        ensures wide { IfSome result (λ r. length r ≡ self.old.channel.width) }
+        ensures gives_all { (p : Option ℕ) (q : List (List ℕ)) → MayHaveBeenFed G.rules self.old p q →
+            Returned G.rules self.old.channel self.old.chirality then
+            (given G.rules self.old.channel self.old.chirality p q)
+            (owed G.rules self.old.channel self.old.chirality p q) result }
+    {
         let y = self.fed;
         self.fed = 0;
         self.mode = Mode::Closed;
         let last = self.last.take()?;
         let upper = mem::replace(&mut self.before_last, last);
         let out = mem::replace(&mut self.oldest, upper);
+        draw_if::<G>(&mut self.random_bits, then, y - 1);
         // Below the bottom row no row is read.
         Some(stream_between(
             self.channel,
             y - 1,
             (&self.oldest, &self.before_last, &self.before_last),
             out,
+            mask_if(&self.random_bits, then),
         ))
     }
 

@@ -6,12 +6,13 @@ ghost use Rattle.std.specs.Option.{option_to_list};
 ghost use Rattle.gas_geom.specs.Channel.{ChannelModel};
 ghost use Rattle.gas_rows.specs.declared.chirality.Chirality.{Chirality};
 ghost use Rattle.gas_stage.specs.Stages.{StagesModel, MayAllHaveBeenFed, MayEachHaveBeenFed, passes_from, owed_by, given_by};
+ghost use Rattle.gas_stage.specs.Inner.Passes.{kept, first_does};
 ghost use Rattle.gas_stage.specs.Inner.Stages.{AreClosed, IsUnderWay};
 
-use crate::stage::Stage;
+use crate::stage::{Stage, collide_if};
 use gas_geom::gas::Gas;
 use gas_rows::channel::Channel;
-use gas_rows::chirality::Chirality;
+use gas_rows::chirality::{Chirality, RandomBits};
 use gas_rows::row::Row;
 use std::alloc::{AllocError, Global};
 use std::marker::Model;
@@ -23,6 +24,8 @@ pub struct Stages<'a, G: Gas> {
     stages: Vec<Stage<'a, G>>,
     channel: &'a Channel,
     chirality: Chirality,
+    // Those of the row that is fed. The bits of a stage are those of the row that it returns.
+    entry_bits: RandomBits,
     flushed: usize,
     fed: u32,
 }
@@ -47,6 +50,8 @@ impl<'a, G: Gas> Model for Stages<'a, G> {
       some : 0 < length s.stages.items;
       few : length s.stages.items ≤ 64;
       few_rows : s.channel.now.height ≤ MOST_SIDE;
+      entry_bits_wide : length s.entry_bits.bits ≡ s.channel.now.width;
+      entry_bits_alike : s.entry_bits.chirality ≡ s.chirality;
       fed_fits : s.fed ≤ s.channel.now.height;
       flushed_fits : s.flushed ≤ length s.stages.items;
       closed : s.flushed ≡ length s.stages.items → AreClosed s.channel.now s.chirality s.stages.items;
@@ -56,7 +61,7 @@ impl<'a, G: Gas> Model for Stages<'a, G> {
 }
 
 impl<'a, G: Gas> Stages<'a, G> {
-    /// So many stages with no open pass. They take all their memory here.
+    /// So many stages with no open pass. They take their memory here.
     pub fn new(
         alloc: Global,
         channel: &'a Channel,
@@ -79,6 +84,7 @@ impl<'a, G: Gas> Stages<'a, G> {
             stages,
             channel,
             chirality,
+            entry_bits: RandomBits::new(alloc, chirality, channel.size().width())?,
             fed: 0,
         })
     }
@@ -104,7 +110,7 @@ impl<'a, G: Gas> Stages<'a, G> {
     /// Feeds the next row of the open pass to the first stage, and each row that a stage returns to
     /// the next. Returns what the last stage returns.
     #[inline(always)]
-    pub fn feed(&mut self, row: Row<G>) -> Option<Row<G>>
+    pub fn feed(&mut self, mut row: Row<G>) -> Option<Row<G>>
         requires open { self.old.flushed < length self.old.stages }
         requires room { self.old.fed < self.old.channel.height }
         requires wide { length row ≡ self.old.channel.width }
@@ -123,8 +129,16 @@ impl<'a, G: Gas> Stages<'a, G> {
             ≡ given_by G.rules self.old.channel self.old.chirality 0 es q
             ++ option_to_list result }
     {
+        let generation = generation_of(&self.stages, 0);
+        collide_if(
+            self.channel,
+            &mut self.entry_bits,
+            generation,
+            self.fed,
+            &mut row,
+        );
         self.fed += 1;
-        feed_from(&mut self.stages, 0, row)
+        pass_from(&mut self.stages, 0, row)
     }
 
     /// Flushes stage after stage, each into those behind it, until the last one returns a row. None
@@ -214,26 +228,42 @@ fn begin_from<G: Gas>(stages: &mut [Stage<'_, G>], k: usize, first: u64, computi
     }
 }
 
-// Feeds a row to stage `k`, and each row that a stage returns to the next.
-fn feed_from<G: Gas>(stages: &mut [Stage<'_, G>], k: usize, row: Row<G>) -> Option<Row<G>>
+// The generation from which stage `k` computes the step, if there is such a stage and it does.
+fn generation_of<G: Gas>(stages: &[Stage<'_, G>], k: usize) -> Option<u64>
+    ensures { (c : ChannelModel) (h : Chirality) (es : List (Option ℕ)) (q : List (List ℕ)) →
+        MayEachHaveBeenFed G.rules c h 0 (drop k stages.now) es q → result ≡ first_does es }
+{
+    if k < stages.len() {
+        stages[k].generation()
+    } else {
+        None
+    }
+}
+
+// Passes a row that is collided for stage `k` to it, and what each stage returns, collided for the
+// next one, to the next. What the last one returns is not collided.
+fn pass_from<G: Gas>(stages: &mut [Stage<'_, G>], k: usize, row: Row<G>) -> Option<Row<G>>
     requires fits { (c : ChannelModel) × ((h : Chirality) × ((n : ℕ) ×
         (IsUnderWay G.rules c h 0 n (drop k stages.old) × (n < c.height)
         × (length row ≡ c.width)))) }
     ensures before { take k stages.new ≡ take k stages.old }
     ensures wide { IfSome result (λ r. length r ≡ length row) }
-    ensures fits { (c : ChannelModel) (h : Chirality) (es : List (Option ℕ)) (q : List (List ℕ)) →
-        MayEachHaveBeenFed G.rules c h 0 (drop k stages.old) es q →
-        MayEachHaveBeenFed G.rules c h 0 (drop k stages.new) es (q ++ row ∷ []) }
-    ensures gives { (c : ChannelModel) (h : Chirality) (es : List (Option ℕ)) (q : List (List ℕ)) →
-        MayEachHaveBeenFed G.rules c h 0 (drop k stages.old) es q →
-        given_by G.rules c h 0 es (q ++ row ∷ [])
+    ensures fits { (c : ChannelModel) (h : Chirality) (es : List (Option ℕ)) (q : List (List ℕ))
+        (r : List ℕ) → MayEachHaveBeenFed G.rules c h 0 (drop k stages.old) es q →
+        row ≡ kept G.rules c h (first_does es) (length q) r →
+        MayEachHaveBeenFed G.rules c h 0 (drop k stages.new) es (q ++ r ∷ []) }
+    ensures gives { (c : ChannelModel) (h : Chirality) (es : List (Option ℕ)) (q : List (List ℕ))
+        (r : List ℕ) → MayEachHaveBeenFed G.rules c h 0 (drop k stages.old) es q →
+        row ≡ kept G.rules c h (first_does es) (length q) r →
+        given_by G.rules c h 0 es (q ++ r ∷ [])
         ≡ given_by G.rules c h 0 es q ++ option_to_list result }
 {
     if k >= stages.len() {
         return Some(row);
     }
-    let row = stages[k].feed(row)?;
-    feed_from(stages, k + 1, row)
+    let then = generation_of(stages, k + 1);
+    let row = stages[k].pass_on(row, then)?;
+    pass_from(stages, k + 1, row)
 }
 
 // Flushes stage `k`, behind those that were flushed, into the ones behind it.
@@ -251,6 +281,7 @@ fn flush_stage<G: Gas>(stages: &mut [Stage<'_, G>], k: usize) -> Option<Row<G>>
         given_by G.rules c h (k + 1) es q
         ≡ given_by G.rules c h k es q ++ option_to_list result }
 {
-    let last = stages[k].flush()?;
-    feed_from(stages, k + 1, last)
+    let then = generation_of(stages, k + 1);
+    let last = stages[k].end(then)?;
+    pass_from(stages, k + 1, last)
 }

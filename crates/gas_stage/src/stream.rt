@@ -1,8 +1,10 @@
 //! The streaming of one row of a channel between the rows beside it.
 ghost use Rattle.std.specs.Prelude.{◌≡◌, ◌+◌, ◌<◌, ◌↔◌, ℕ, [], false, length, slice_index_or, unwrap_or, IsTrue, IsSome};
 ghost use Rattle.std.specs.Option.{option_copied, ForSome};
+ghost use Rattle.gas_geom.specs.Channel.{ChannelModel};
 ghost use Rattle.gas_geom.specs.Lattice.{streamed, row_of};
-ghost use Rattle.gas_rows.specs.Streaming.{AreRowsAbout};
+ghost use Rattle.gas_rows.specs.Streaming.{AreRowsAbout, AreRowsLong, AreWordsAbout};
+ghost use Rattle.gas_stage.specs.Inner.Passes.{collided_with};
 
 use gas_geom::gas::Gas;
 use gas_geom::moves::Move;
@@ -21,8 +23,26 @@ fn are_blank(above: &Mask, middle: &Mask, below: &Mask) -> bool
     middle.is_blank() && above.is_blank() && below.is_blank()
 }
 
-// Writes row `y` after streaming from the collided rows above, at and below it. Past a wall any row
-// serves.
+// Streams into a row, and collides it if random bits are given.
+#[inline(always)]
+fn advance<'a, G: Gas>(neighbourhood: &Neighbourhood<'a>, then: Option<&Mask>, out: &mut Row<G>)
+    requires wide { neighbourhood.now.width ≡ length out.old }
+    requires rows { AreRowsLong G.rules.dirs neighbourhood.now }
+    requires then_wide { ForSome (option_copied then) (λ b. length b ≡ length out.old) }
+    ensures wide { length out.new ≡ length out.old }
+    ensures streamed { (channel : ChannelModel) (at : ℕ → ℕ → ℕ) →
+        AreWordsAbout G.rules.dirs channel at neighbourhood.now →
+        out.new ≡ collided_with G.rules channel (option_copied then.entry) neighbourhood.now.y
+        (row_of channel.width (λ x. streamed G.rules channel at x neighbourhood.now.y)) }
+{
+    match then {
+        Some(bits) => out.stream_and_collide(neighbourhood, bits),
+        None => out.stream(neighbourhood),
+    }
+}
+
+// Writes row `y` after streaming from the collided rows above, at and below it, and after the
+// collision that follows if its random bits are given. Past a wall any row serves.
 #[inline(always)]
 fn stream_into<G: Gas>(
     channel: &Channel,
@@ -31,16 +51,19 @@ fn stream_into<G: Gas>(
     middle: &Row<G>,
     below: &Row<G>,
     out: &mut Row<G>,
+    then: Option<&Mask>,
 )
     requires row { y < channel.now.height }
     requires above_wide { length above.now ≡ channel.now.width }
     requires middle_wide { length middle.now ≡ channel.now.width }
     requires below_wide { length below.now ≡ channel.now.width }
     requires wide { length out.old ≡ channel.now.width }
+    requires then_wide { ForSome (option_copied then) (λ b. length b ≡ channel.now.width) }
     ensures wide { length out.new ≡ channel.now.width }
     ensures streamed { (at : ℕ → ℕ → ℕ) →
         AreRowsAbout channel.now at y above.now middle.now below.now →
-        out.new ≡ row_of channel.now.width (λ x. streamed G.rules channel.now at x y) }
+        out.new ≡ collided_with G.rules channel.now (option_copied then.entry) y
+        (row_of channel.now.width (λ x. streamed G.rules channel.now at x y)) }
 {
     let solid_above = channel.mask_beside(y, Move::Back);
     let solid_middle = channel.mask(y);
@@ -56,30 +79,34 @@ fn stream_into<G: Gas>(
         y,
         all_fluid: are_blank(solid_above, solid_middle, solid_below),
     };
-    out.stream(&neighbourhood);
+    advance(&neighbourhood, then, out);
 }
 
-/// Row `y` after streaming from the collided rows above, at and below it, in the memory of `out`. By
-/// value, so that the compiler knows that no store changes the row's pointer.
+/// Row `y` after streaming from the collided rows above, at and below it, and after the collision that
+/// follows if its random bits are given, in the memory of `out`. By value, so that the compiler knows
+/// that no store changes the row's pointer.
 #[inline(never)]
 pub(crate) fn stream_between<G: Gas>(
     channel: &Channel,
     y: u32,
     rows: (&Row<G>, &Row<G>, &Row<G>),
     mut out: Row<G>,
+    then: Option<&Mask>,
 ) -> Row<G>
     requires row { y < channel.now.height }
     requires above_wide { length rows.0.now ≡ channel.now.width }
     requires middle_wide { length rows.1.now ≡ channel.now.width }
     requires below_wide { length rows.2.now ≡ channel.now.width }
     requires wide { length out ≡ channel.now.width }
+    requires then_wide { ForSome (option_copied then) (λ b. length b ≡ channel.now.width) }
     ensures wide { length result ≡ channel.now.width }
     ensures streamed { (at : ℕ → ℕ → ℕ) →
         AreRowsAbout channel.now at y rows.entry.0.now rows.entry.1.now rows.entry.2.now →
-        result ≡ row_of channel.now.width (λ x. streamed G.rules channel.now at x y) }
+        result ≡ collided_with G.rules channel.now (option_copied then.entry) y
+        (row_of channel.now.width (λ x. streamed G.rules channel.now at x y)) }
 {
     let (above, middle, below) = rows;
-    stream_into(channel, y, above, middle, below, &mut out);
+    stream_into(channel, y, above, middle, below, &mut out, then);
     out
 }
 
@@ -106,5 +133,13 @@ pub fn stream_row<G: Gas>(
         (unwrap_or (option_copied up.entry) []) mid.now (unwrap_or (option_copied down.entry) []) →
         out.new ≡ row_of channel.now.width (λ x. streamed G.rules channel.now at x y) }
 {
-    stream_into(channel, y, up.unwrap_or(mid), mid, down.unwrap_or(mid), out);
+    stream_into(
+        channel,
+        y,
+        up.unwrap_or(mid),
+        mid,
+        down.unwrap_or(mid),
+        out,
+        None,
+    );
 }

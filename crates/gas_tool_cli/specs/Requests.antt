@@ -1,6 +1,7 @@
 -- The request in the matches of the words, and the fault of words without a request.
 use Rattle.std.specs.Prelude.{◌≡◌, ◌≢◌, ◌⊎◌, ◌≤◌, ◌*◌, ℕ, min, max, List, [], ◌∷◌, map, Option, Some, None, IsSomeAnd, Result, Ok, Err, IsOkAnd, String, codes, unwrap_or, ⊤}
 use Rattle.std.specs.Global.{Global}
+use Rattle.std.specs.Int.{div_ceil}
 use Rattle.std.specs.String.{string_bytes}
 use Rattle.std.specs.Vec.Iter.{into_iter_items}
 use Rattle.std.specs.declared.io.Error.{Error}
@@ -33,19 +34,23 @@ IsGivenAt rows option (Some n) = IsNumberAt 32 rows option n
 abbrev pub IsNumberOr : ℕ → List Row → Text → ℕ → Type 0
 IsNumberOr default rows option n = (given : Option ℕ) × IsGivenAt rows option given × (n ≡ unwrap_or given default)
 
--- the number of stages if none is given: 4, or 16 per thread, from 16 to 64
-abbrev pub default_stages : Option ℕ → ℕ
-default_stages None = 4
-default_stages (Some threads) = 16 * max 1 (min threads 4)
+-- the stages of passes of equal length, as few as 16 stages per thread and 64 in all allow; at least one per thread
+abbrev pub even_stages : ℕ → ℕ → ℕ
+even_stages threads generations = max threads (div_ceil generations (div_ceil generations (min (16 * threads) 64)))
+
+-- the number of stages if none is given: 4, or even passes, where threads count as 1 to 64, and no generation as one
+abbrev pub default_stages : Option ℕ → ℕ → ℕ
+default_stages None generations = 4
+default_stages (Some threads) generations = even_stages (max 1 (min threads 64)) (max generations 1)
 
 -- the capacity if none is given
 abbrev pub default_capacity : Option ℕ → ℕ
 default_capacity None = 2
 default_capacity (Some threads) = 128
 
--- the rows contain these numbers of a plan, whose defaults depend on its number of threads, if one is given
+-- the rows contain these numbers of a plan, whose defaults depend on its generations and its number of threads, if one is given
 pub record IsPlanAt (rows : List Row) (threads : Option ℕ) (stages capacity generations : ℕ) : Type 0 where
-  pub stages_at : IsNumberOr (default_stages threads) rows (codes "stages") stages
+  pub stages_at : IsNumberOr (default_stages threads generations) rows (codes "stages") stages
   pub capacity_at : IsNumberOr (default_capacity threads) rows (codes "capacity") capacity
   pub generations_at : IsNumberAt 64 rows (codes "generations") generations
 

@@ -98,7 +98,8 @@ pub(crate) const CAPACITY: &str =
 
 pub(crate) const THREADS: &str = "\
 Threads that share the stages: 1 to N [default: N]. With --threads
-the default N is 16 T, at most 64, and the default C 128";
+the default C is 128, and the default N at least T: it spreads G
+evenly over as few passes as 16 T stages, at most 64, allow";
 
 pub(crate) const BLOCK_WIDTH: &str = "Columns of cells in a block: 1 to 4096";
 

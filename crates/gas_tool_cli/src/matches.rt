@@ -1,10 +1,10 @@
 //! The request in the matches of `clap`: the subcommand, and the values of its options.
 
-ghost use Rattle.std.specs.Prelude.{◌≡◌, IfOk, IfSome, Some, map, codes};
+ghost use Rattle.std.specs.Prelude.{◌≡◌, ◌≤◌, IfOk, IfSome, Some, map, codes};
 ghost use Rattle.std.specs.List.{AllZip};
 ghost use Rattle.clap.specs.Words.{found_of, rows_of, subcommand_rows_of};
 ghost use Rattle.gas_tool_cli.specs.Requests.{AreTurnsAt, IsGivenAt, IsNumber, IsPlanAt, IsRequestOf};
-ghost use Rattle.gas_tool_cli.specs.Requests.{IsSideAt, default_capacity, default_stages};
+ghost use Rattle.gas_tool_cli.specs.Requests.{IsSideAt, default_capacity, default_stages, even_stages};
 
 use crate::command::MOST_BLOCK_SIDE;
 use crate::words::{Request, Turns};
@@ -35,12 +35,25 @@ struct PlanNumbers {
     generations: u64,
 }
 
+// The stages of passes of equal length, as few as 16 stages per thread and 64 in all allow. A thread
+// has at least one.
+fn even_stages(threads: u32, generations: u64) -> u32
+    requires some_threads { 1 ≤ threads }
+    requires few_threads { threads ≤ 64 }
+    requires some_generations { 1 ≤ generations }
+    ensures { result ≡ even_stages threads generations }
+{
+    let most = (16 * threads).min(64);
+    let passes = generations.div_ceil(u64::from(most));
+    threads.max(generations.div_ceil(passes) as u32)
+}
+
 // The number of stages if none is given.
-fn default_stages(threads: Option<u32>) -> u32
-    ensures { result ≡ default_stages threads }
+fn default_stages(threads: Option<u32>, generations: u64) -> u32
+    ensures { result ≡ default_stages threads generations }
 {
     match threads {
-        Some(threads) => 16 * threads.clamp(1, 4),
+        Some(threads) => even_stages(threads.clamp(1, 64), generations.max(1)),
         None => 4,
     }
 }
@@ -72,7 +85,7 @@ fn plan_of(options: &ArgMatches, threads: Option<u32>) -> Option<PlanNumbers>
     let capacity = given(options, "capacity")?;
     let generations = options.get_one::<u64>("generations")?;
     Some(PlanNumbers {
-        stages: stages.unwrap_or(default_stages(threads)),
+        stages: stages.unwrap_or(default_stages(threads, generations)),
         capacity: capacity.unwrap_or(default_capacity(threads)),
         generations,
     })

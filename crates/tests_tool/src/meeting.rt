@@ -88,16 +88,17 @@ impl Gate for Meeting {
 const SCENE: &[u8] =
     b"gas = \"fhp1\"\nchirality = \"left\"\nwidth = 7\nheight = 3\nparticles = [[0, 1, 1]]\n";
 
-// What a request on the scene prints, with four workers in two passes.
+// What a request on the scene prints, with four stages in two passes, so many of them to a worker.
 fn assert_prints<R: Abort + Threads + Wait + Sync>(
     rt: &R,
     alloc: Global,
     request: &Request,
+    stages: u32,
     wanted: &str,
 ) -> Result<(), Fail>
     requires { IsAllowed request.now }
 {
-    let gate = Meeting::of(alloc, 4, 1)?;
+    let gate = Meeting::of(alloc, (4 / stages.max(1)) as usize, stages)?;
     let mut out = Vec::new(alloc);
     perform(rt, alloc, SCENE, request, &gate, &mut out)?;
     assert!(rt; out.as_slice() == wanted.as_bytes());
@@ -163,6 +164,12 @@ fn all_workers_of_several_stages_meet(rt: HostRuntime) -> Result<(), Fail> {
     workers_meet(&rt, rt.alloc(), (6, 3, 32), 2)
 }
 
+const CELLS: &str = "generation 5 particles 1
+..............
+..........01..
+..............
+";
+
 #[test]
 fn all_workers_of_a_request_meet(rt: HostRuntime) -> Result<(), Fail> {
     let request = Request::Run {
@@ -171,12 +178,7 @@ fn all_workers_of_a_request_meet(rt: HostRuntime) -> Result<(), Fail> {
         generations: 5,
         threads: None,
     };
-    let cells = "generation 5 particles 1
-..............
-..........01..
-..............
-";
-    assert_prints(&rt, rt.alloc(), &request, cells)?;
+    assert_prints(&rt, rt.alloc(), &request, 1, CELLS)?;
     let request = Request::Coarse {
         stages: 4,
         capacity: 1,
@@ -188,5 +190,16 @@ fn all_workers_of_a_request_meet(rt: HostRuntime) -> Result<(), Fail> {
     let table = "  col   row    fluid particles         px         py
     0     0       21         1          2          0
 ";
-    assert_prints(&rt, rt.alloc(), &request, table)
+    assert_prints(&rt, rt.alloc(), &request, 1, table)
+}
+
+#[test]
+fn both_workers_of_a_request_on_two_threads_meet(rt: HostRuntime) -> Result<(), Fail> {
+    let request = Request::Run {
+        stages: 4,
+        capacity: 32,
+        generations: 5,
+        threads: Some(2),
+    };
+    assert_prints(&rt, rt.alloc(), &request, 2, CELLS)
 }

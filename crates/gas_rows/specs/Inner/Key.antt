@@ -1,8 +1,7 @@
 -- Inner words: what functions of this crate promise one another. No public contract cites them.
 -- Here: generators of the key stream, and the random bits of a row.
-use Rattle.std.specs.Prelude.{◌≡◌, ℕ, ◌+◌, ◌/◌, ◌%◌, Bool, List}
-use Rattle.rand_chacha.specs.ChaCha.{ChaCha, word_at, key_of}
-use Rattle.gas_geom.specs.Gas.{holds}
+use Rattle.std.specs.Prelude.{◌≡◌, ℕ, Bool, List}
+use Rattle.rand_chacha.specs.ChaCha.{ChaCha, key_of}
 use Rattle.gas_geom.specs.Lattice.{row_of}
 use Rattle.gas_rows.specs.Chirality.{chirality_bit}
 use Rattle.gas_rows.specs.Key.{key_bytes}

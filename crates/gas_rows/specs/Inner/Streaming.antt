@@ -1,18 +1,19 @@
 -- Inner words: what functions of this crate promise one another. No public contract cites them.
--- Here: the directions of a row as they are streamed.
-use Rattle.std.specs.Prelude.{◌≡◌, ℕ, ◌*◌, ◌<◌, ◌≤◌, false, List}
-use Rattle.gas_geom.specs.Gas.{Rules, holds}
+-- Here: the words of a row as they are streamed and collided.
+use Rattle.std.specs.Prelude.{◌≡◌, ℕ, ◌*◌, ◌<◌, ◌&&◌, nat_le, nat_lt, Bool, List, if◌then◌else◌}
+use Rattle.gas_geom.specs.Gas.{Rules}
 use Rattle.gas_geom.specs.Channel.{ChannelModel}
 use Rattle.gas_geom.specs.Lattice.{streamed}
-use Rattle.gas_bits.specs.Words.{words_in}
-use Rattle.gas_bits.specs.Planes.{has}
-use Rattle.gas_rows.specs.declared.stream.Neighbourhood.{Neighbourhood}
+use Rattle.gas_bits.specs.Words.{words_in, bit}
+use Rattle.gas_bits.specs.Planes.{state}
+use Rattle.gas_rows.specs.declared.stream.Kernel.{Kernel}
 
--- the directions below k of the words are those of the middle row of the lattice `at` after streaming
-abbrev pub AreStreamed : Rules → ChannelModel → (ℕ → ℕ → ℕ) → Neighbourhood → ℕ → List ℕ → Type 0
-AreStreamed gas channel at n k words = (i x : ℕ) → i < k → i < gas.dirs → x < channel.width
-    → has words (words_in n.width) i x ≡ holds (streamed gas channel at x n.y) i
+-- the state of a cell from that after streaming, if a collision follows or not
+abbrev pub advanced_state : Rules → Bool → ℕ → Bool → ℕ
+advanced_state gas collides s chi = if collides then gas.collide s chi else s
 
--- the directions below k of the words have no bit past the width
-abbrev pub AreClearBelow : ℕ → ℕ → ℕ → List ℕ → Type 0
-AreClearBelow dirs width k words = (i x : ℕ) → i < k → i < dirs → width ≤ x → x < 64 * words_in width → has words (words_in width) i x ≡ false
+-- the cells of the words from `from` to `to - 1` are those of the middle row of the lattice `at` after that, the others as they were
+abbrev pub AreAdvanced : Rules → ChannelModel → (ℕ → ℕ → ℕ) → Kernel → ℕ → ℕ → List ℕ → List ℕ → Type 0
+AreAdvanced gas channel at k from to old new = (x : ℕ) → x < channel.width → state new (words_in k.rows.width) gas.dirs x
+    ≡ (if nat_le (64 * from) x && nat_lt x (64 * to) then advanced_state gas k.collides (streamed gas channel at x k.rows.y) (bit k.chi.now x)
+    else state old (words_in k.rows.width) gas.dirs x)

@@ -2,9 +2,11 @@
 
 use super::Step::{Given, Held, NoSpare, NothingTaken, OtherBack, Put, PutBack, Spare, Taken};
 use super::{Step, count_carried, ends, is_next, is_over, play, put};
+use gas_belt::belt;
 use gas_belt::rx::Rx;
 use gas_belt::tx::Tx;
 use gas_geom::fhp1::Fhp1;
+use gas_rows::row::Row;
 use std::alloc::{AllocError, Global};
 use std::process::Abort;
 use std::test::Fail;
@@ -235,6 +237,33 @@ fn refuses_in_any_order(
 fn rows_have_their_places_in_any_order(rt: HostRuntime) -> Result<(), Fail> {
     for (places, width) in [(8, 7), (9, 65), (33, 256), (1024, 4)] {
         refuses_in_any_order(&rt, rt.alloc(), places, width)?;
+    }
+    Ok(())
+}
+
+// Puts a row with this number in its last cell, takes it, and gives it back. Returns the row that was
+// put; None if the belt had no place, or if no row came, or another.
+fn carry_one(
+    tx: &mut Tx<Fhp1>,
+    rx: &mut Rx<Fhp1>,
+    mut row: Row<Fhp1>,
+    n: u32,
+) -> Option<Row<Fhp1>> {
+    let last = row.width() - 1;
+    row.set(last, (n % 64) as u8);
+    tx.try_put(row).ok()?;
+    let taken = rx.try_take()?;
+    let is_same = taken.width() > last && taken.get(last) == (n % 64) as u8;
+    rx.give(taken);
+    if is_same { tx.spare() } else { None }
+}
+
+#[test]
+fn a_belt_carries_two_to_the_26_rows(rt: HostRuntime) -> Result<(), Fail> {
+    let (mut tx, mut rx) = belt(rt.alloc(), 1, 1)?;
+    let mut row = Row::blank(rt.alloc(), 1)?;
+    for n in 0..1 << 26 {
+        row = carry_one(&mut tx, &mut rx, row, n).ok_or("a row")?;
     }
     Ok(())
 }

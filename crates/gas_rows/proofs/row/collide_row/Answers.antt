@@ -4,7 +4,8 @@ use Rattle.gas_bits.specs.Words.{words_in, bit}
 use Rattle.gas_bits.specs.Planes.{state}
 use Rattle.gas_geom.specs.Lattice.{row_of}
 use Rattle.gas_rows.proofs.Rows.{AreOf, wide, row_of-same}
-use Rattle.gas_rows.proofs.Collisions.{nothing, row-collided}
+use Rattle.gas_geom.proofs.Held.{collide-empty}
+use Rattle.gas_rows.proofs.Collisions.{row-collided}
 use Rattle.gas_rows.proofs.row.collide_row.Given.{Over}
 use Rattle.gas_rows.proofs.row.collide_row.Goals.{After-row-1}
 use Rattle.gas_rows.proofs.row.collide_row.Goals as goal
@@ -25,7 +26,7 @@ settled : (g : Over) (c : After-row-1 g) → AreOf g.G.Gas.rules.dirs c.row.insi
 settled g c =
     let gas = g.G.Gas.rules in
     let n = c.words_for.result in
-    row-collided gas.dirs gas.collide (nothing gas g.met.G.Gas.laws) c.row.inside.width c.row.inside.words.items c.args.row.now c.row.invariant c.row.view_is
+    row-collided gas.dirs gas.collide (collide-empty gas g.met.G.Gas.laws) c.row.inside.width c.row.inside.words.items c.args.row.now c.row.invariant c.row.view_is
     c.collide.new.words n c.words-2.result.now c.words.result.now c.words_for.ensures.value (c.collide.auto.words ∙ ap length c.deref_mut.ensures.value)
     (subst (λ ws. (y : ℕ) → y / 64 < n → state c.collide.new.words n gas.dirs y
     ≡ (if bit c.words.result.now y then 0 else gas.collide (state ws n gas.dirs y) (bit c.words-2.result.now y))) c.deref_mut.ensures.value c.collide.ensures.collided)

@@ -24,7 +24,7 @@ returns-clause-streamed g c = λ at about.
     let above = ap (λ (w : ℕ). cells_of dirs w c.as_words.result.now) (wide ∙ sym c.requires.above_wide) ∙ c.as_words.ensures.cells in
     let middle = ap (λ (w : ℕ). cells_of dirs w c.as_words-2.result.now) (wide ∙ sym c.requires.middle_wide) ∙ c.as_words-2.ensures.cells in
     let below = ap (λ (w : ℕ). cells_of dirs w c.as_words-3.result.now) (wide ∙ sym c.requires.below_wide) ∙ c.as_words-3.ensures.cells in
-    c.stream.ensures.streamed c.args.channel.now at (record {
+    c.advance.ensures.streamed c.args.channel.now at (record {
       wide = wide;
       rows = record {
         up_is = λ some x h fluid. ap (λ (r : List ℕ). get_or r x 0) above ∙ about.up_is some x h fluid;

@@ -1,6 +1,7 @@
-use Rattle.std.proofs.Common.{◌≡◌, ◌+◌, refl, ap, sym, subst, ◌∙◌, ℕ, List, length, arith}
+use Rattle.std.proofs.Common.{rules, ◌≡◌, ◌+◌, ◌<◌, refl, ap, sym, subst, ◌∙◌, ℕ, List, length, arith}
 use Rattle.gas_rows.specs.Row.{RowModel}
 use Rattle.gas_pipe_model.specs.Plan.{before}
+use Rattle.gas_pipe_model.proofs.Boundaries.{some_passes}
 use Rattle.gas_pipe_model.specs.Pass.{RunInputModel}
 use Rattle.gas_pipe.specs.Inner.Worker.{StockModel, LineWorkerModel}
 use Rattle.gas_pipe.proofs.Workers.{begins, opened}
@@ -38,3 +39,16 @@ returns-clause-come g c =
           );
       room = ap (λ (s : StockModel). s.most) fresh ∙ omega (arith, c.begin_stages.ensures.same.count, c.in_ok-worker.ensures.count);
     })
+
+pub invariant_of-result : goal.invariant_of-result
+invariant_of-result g c = record {
+  one_of = subst (λ (i : RunInputModel). c.args.share.number < i.plan.threads) (sym c.input.view_is) c.requires.one_of;
+  stages =
+      ap (λ (n : ℕ). before c.input.inside.span.plan c.args.share.number + n) (c.begin_stages.ensures.same.count ∙ c.in_ok-worker.ensures.count)
+      ∙ subst (λ (i : RunInputModel). before i.plan c.args.share.number + c.args.share.stages ≡ before i.plan (c.args.share.number + 1))
+      (sym c.input.view_is) c.requires.stages;
+  within = some_passes c.input.inside.span.plan.generations c.input.inside.span.plan.stages
+      (let some : 0 < c.input.inside.span.plan.stages = search rules in some)
+      (subst (λ (i : RunInputModel). 0 < i.plan.generations) (sym c.input.view_is) c.requires.some);
+  wide = search rules;
+}

@@ -1,4 +1,4 @@
-use Rattle.std.proofs.Common.{◌≡◌, ◌+◌, ◌*◌, ◌<◌, ℕ, length, get_or, ap, sym, ◌∙◌, subst, arith}
+use Rattle.std.proofs.Common.{◌+◌, ◌*◌, ◌<◌, ℕ, length, get_or, ap, sym, ◌∙◌, subst, arith}
 use Rattle.gas_geom.specs.Gas.{holds}
 use Rattle.gas_bits.specs.Words.{words_in}
 use Rattle.gas_bits.proofs.Cells.{place_in}

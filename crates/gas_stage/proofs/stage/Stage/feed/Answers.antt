@@ -1,48 +1,36 @@
-use Rattle.std.proofs.Common.{◌≡◌, ◌-◌, ◌<◌, ℕ, Bool, false, List, [], IsSome, unwrap_or, refl, length, get_or, ap, ◌∙◌, sym, subst}
-use Rattle.std.proofs.lemmas.Bool.{false≢true}
-use Rattle.gas_rows.specs.Streaming.{AreRowsAbout}
-use Rattle.gas_stage.specs.Inner.Passes.{open_pass}
-use Rattle.gas_stage.specs.Stage.{StageModel}
-use Rattle.gas_stage.proofs.Feeding.{feed-fits, feed-gives}
+use Rattle.std.proofs.Common.{◌≡◌, ◌∷◌, [], ◌++◌, List, length, Option, ℕ, Some, None, ap, ◌∙◌, sym, subst, refl}
+use Rattle.std.specs.Option.{option_to_list}
+use Rattle.gas_stage.specs.Inner.Passes.{kept}
+use Rattle.gas_stage.specs.Stage.{StageModel, MayHaveBeenFed, given}
+use Rattle.gas_stage.proofs.Feeding.{returned_raw}
+use Rattle.gas_stage.proofs.stage.Stage.feed.Given.{Over}
+use Rattle.gas_stage.proofs.stage.Stage.feed.Goals.{After-pass_on}
 use Rattle.gas_stage.proofs.stage.Stage.feed.Goals as goal
 
-pub returns-in_default-take-clause-fits : goal.returns-in_default-take-clause-fits
-returns-in_default-take-clause-fits g c = λ p q fits.
-    let wide : length c.self.inside.random_bits.bits ≡ length c.args.row =
-    c.self.invariant.bits_wide ∙ ap (λ (v : StageModel). v.channel.width) c.self.view_is ∙ sym c.requires.wide in
-    feed-fits g.G.Gas.rules _ c.args.self.now c.self.view_is c.in-Computes.generation (length c.self.inside.random_bits.bits) c.args.row c.collide_row.new.row
-    c.mask.result.now c.mask-2.result.now (ap open_pass c.in-Computes.is) c.collide_row.ensures.collided c.mask.ensures.row
-    wide
-    (λ set x h. ap (λ (bits : List Bool). g.G.Gas.rules.collide set (get_or bits x false)) c.mask-2.ensures.bits ∙ c.draw_for.ensures.collisions set x h)
-    c.requires.wide p q c.draw_for.new.self.chirality c.self.inside.before_last fits c.draw_for.ensures.chirality
-    (λ some. absurd (false≢true (subst IsSome (sym c.in_default-take.ensures.value) (c.self.invariant.computes c.in-Computes.generation c.in-Computes.is some))))
+-- the row is passed on as the stage keeps it
+enters : (g : Over) (c : After-pass_on g) (p : Option ℕ) (q : List (List ℕ)) → MayHaveBeenFed g.G.Gas.rules c.args.self.now p q →
+    c.collide.new.row ≡ kept g.G.Gas.rules c.collide.new.self.channel c.collide.new.self.chirality p (length q) c.args.row
+enters g c p q fits =
+    let gas = g.G.Gas.rules in
+    let s = c.args.self.now in
+    c.collide.ensures.kept p fits.pass
+    ∙ ap (λ y. kept gas s.channel s.chirality p y c.args.row) fits.fed
+    ∙ ap (λ (v : StageModel). kept gas v.channel v.chirality p (length q) c.args.row) (sym c.collide.ensures.same)
+
+here : (g : Over) (c : After-pass_on g) (p : Option ℕ) (q : List (List ℕ)) → MayHaveBeenFed g.G.Gas.rules c.args.self.now p q →
+    MayHaveBeenFed g.G.Gas.rules c.collide.new.self p q
+here g c p q fits = subst (λ (v : StageModel). MayHaveBeenFed g.G.Gas.rules v p q) (sym c.collide.ensures.same) fits
+
+pub returns-clause-passes_on : goal.returns-clause-passes_on
+returns-clause-passes_on g c = λ passes.
+    c.pass_on.ensures.passes_on (ap (λ (v : StageModel). v.pass) c.collide.ensures.same ∙ passes) refl ∙ ap (λ r. Some r) (c.collide.ensures.kept None passes)
 
 pub returns-clause-fits : goal.returns-clause-fits
-returns-clause-fits g c = λ p q fits.
-    let wide : length c.self.inside.random_bits.bits ≡ length c.args.row =
-    c.self.invariant.bits_wide ∙ ap (λ (v : StageModel). v.channel.width) c.self.view_is ∙ sym c.requires.wide in
-    feed-fits g.G.Gas.rules _ c.args.self.now c.self.view_is c.in-Computes.generation (length c.self.inside.random_bits.bits) c.args.row c.collide_row.new.row
-    c.mask.result.now c.mask-2.result.now (ap open_pass c.in-Computes.is) c.collide_row.ensures.collided c.mask.ensures.row
-    wide
-    (λ set x h. ap (λ (bits : List Bool). g.G.Gas.rules.collide set (get_or bits x false)) c.mask-2.ensures.bits ∙ c.draw_for.ensures.collisions set x h)
-    c.requires.wide p q c.draw_for.new.self.chirality c.replace-above.new.dest fits c.draw_for.ensures.chirality
-    (λ some. c.replace-above.ensures.after ∙ ap (λ v. unwrap_or v []) c.in-Some.ensures.value)
+returns-clause-fits g c = λ p q fits. c.pass_on.ensures.fits p q c.args.row (here g c p q fits) (enters g c p q fits)
 
 pub returns-clause-gives : goal.returns-clause-gives
 returns-clause-gives g c = λ p q fits.
-    let wide : length c.self.inside.random_bits.bits ≡ length c.args.row =
-    c.self.invariant.bits_wide ∙ ap (λ (v : StageModel). v.channel.width) c.self.view_is ∙ sym c.requires.wide in
-    let some = c.in-Some.ensures.value in
-    let held = ap (λ v. unwrap_or v []) some in
-    feed-gives g.G.Gas.rules _ c.args.self.now c.self.view_is c.in-Computes.generation (length c.self.inside.random_bits.bits) c.args.row c.collide_row.new.row
-    c.mask.result.now c.mask-2.result.now (ap open_pass c.in-Computes.is) c.collide_row.ensures.collided c.mask.ensures.row
-    wide
-    (λ set x h. ap (λ (bits : List Bool). g.G.Gas.rules.collide set (get_or bits x false)) c.mask-2.ensures.bits ∙ c.draw_for.ensures.collisions set x h)
-    c.requires.wide p q c.stream_between-given.result fits
-    (c.self.invariant.last_fed (subst IsSome some refl))
-    (subst (λ (v : StageModel). v.fed < v.channel.height) (sym c.self.view_is) c.requires.room)
-    (λ at about. c.stream_between-given.ensures.streamed at
-    (subst (λ (a : List ℕ). AreRowsAbout c.self.inside.channel.now at (c.self.inside.fed - 1) a c.replace-above.new.dest c.collide_row.new.row)
-    (sym (c.replace-out.ensures.after ∙ c.replace-above.ensures.value))
-    (subst (λ (m : List ℕ). AreRowsAbout c.self.inside.channel.now at (c.self.inside.fed - 1) c.self.inside.before_last m c.collide_row.new.row)
-    (sym (c.replace-above.ensures.after ∙ held)) about)))
+    subst (λ (v : StageModel). given g.G.Gas.rules v.channel v.chirality p (q ++ c.args.row ∷ [])
+    ≡ given g.G.Gas.rules v.channel v.chirality p q ++ option_to_list c.pass_on.result) c.collide.ensures.same
+    (returned_raw g.G.Gas.rules c.collide.new.self.channel c.collide.new.self.chirality _ _ c.pass_on.result
+    (c.pass_on.ensures.gives p q c.args.row (here g c p q fits) (enters g c p q fits)))

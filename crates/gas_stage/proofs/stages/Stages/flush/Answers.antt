@@ -3,6 +3,7 @@ use Rattle.std.specs.Option.{option_to_list}
 use Rattle.std.proofs.lemmas.List.{with_items_is}
 use Rattle.gas_geom.specs.Channel.{ChannelModel}
 use Rattle.gas_geom.specs.declared.size.TheConstants.{MOST_SIDE}
+use Rattle.gas_rows.specs.Chirality.{RandomBitsModel}
 use Rattle.gas_stage.specs.Stages.{StagesModel, MayAllHaveBeenFed, MayEachHaveBeenFed, owed_by, given_by}
 use Rattle.gas_stage.specs.Inner.Stages.{IsUnderWay}
 use Rattle.gas_stage.proofs.Composed.{closes, gives_all, renamed}
@@ -12,10 +13,12 @@ pub invariant_of-self : goal.invariant_of-self
 invariant_of-self g c =
     let s = c.self.inside in
     let here = c.loop-k.invariant in
-    rw (here.channel, here.chirality, here.fed, here.flushed) (record {
+    rw (here.channel, here.chirality, here.fed, here.flushed, here.entry_bits) (record {
       some = omega (arith, here.count, c.self.invariant.some);
       few = omega (arith, here.count, c.self.invariant.few);
       few_rows = c.self.invariant.few_rows;
+      entry_bits_wide = c.self.invariant.entry_bits_wide;
+      entry_bits_alike = c.self.invariant.entry_bits_alike;
       fed_fits = c.self.invariant.fed_fits;
       flushed_fits = omega (arith, c.loop-k.auto.k-end, c.self.invariant.flushed_fits, here.count, c.len-k-end.ensures, s.stages.ok.0);
       closed = closes g.G.Gas.rules s.channel.now s.chirality c.loop-k.k s.fed c.loop-k.self-inside.stages.items here.way;
@@ -43,6 +46,9 @@ invariant_of-self-then-is_some g c =
       some = omega (arith, same, c.self.invariant.some);
       few = omega (arith, same, c.self.invariant.few);
       few_rows = subst (λ (ch : ChannelModel). ch.height ≤ MOST_SIDE) (sym here.channel) c.self.invariant.few_rows;
+      entry_bits_wide = ap (λ (b : RandomBitsModel). length b.bits) here.entry_bits ∙ c.self.invariant.entry_bits_wide
+          ∙ sym (ap (λ (ch : ChannelModel). ch.width) here.channel);
+      entry_bits_alike = ap (λ (b : RandomBitsModel). b.chirality) here.entry_bits ∙ c.self.invariant.entry_bits_alike ∙ sym here.chirality;
       fed_fits = omega (arith, here.fed, ap (λ (ch : ChannelModel). ch.height) here.channel, c.self.invariant.fed_fits);
       flushed_fits = omega (arith, same, c.loop-k-test.true, c.len-k-end.ensures, s.stages.ok.0);
       closed = closes g.G.Gas.rules l.channel.now l.chirality (c.loop-k.k + 1) l.fed new way;

@@ -1,4 +1,4 @@
-use Rattle.std.proofs.Common.{arith}
+use Rattle.std.proofs.Common.{◌∙◌, arith}
 use Rattle.std.proofs.lemmas.List.{length_push}
 use Rattle.gas_stage.proofs.Composed.{closed-push}
 use Rattle.gas_stage.proofs.stages.Stages.new.Goals as goal
@@ -17,6 +17,8 @@ invariant_of-result g c = record {
   some = omega (arith, c.loop.invariant.count);
   few = omega (arith, c.loop.invariant.count);
   few_rows = c.loop.invariant.few_rows (omega arith);
+  entry_bits_wide = c.in_ok-new-2.ensures.wide ∙ c.width.ensures.value ∙ c.size.ensures.width;
+  entry_bits_alike = c.in_ok-new-2.ensures.chirality;
   fed_fits = omega arith;
   flushed_fits = omega (arith, c.len.ensures);
   closed = λ _. c.loop.invariant.closed;
