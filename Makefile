@@ -9,6 +9,7 @@
 #   make page             bundles page/src, and the kernel by plain Rust, into page/fhpgas.html, by esbuild
 #   make definitions      writes the definitions that all promises rest on to out/DEFINITIONS.md
 #   make plain            builds fhpgas and the library for C by plain Rust, without the kit and not proved, into out/plain
+#   make crate            makes the crate fhpgas, for programs in Rust, into out/crate
 #   make wheel            packs the Python package into out/, with program and engine for Linux, and without them for other systems
 #   make archive FILE=F   packs fhpgas, built for x86-64-v2, into F, a .tar.gz for machines without the kit
 #   make release          makes out/release with all that is handed out, and their sums (DRAFT=yes: without record or reference too)
@@ -20,20 +21,19 @@ SHELL := /bin/bash
 MAKEFLAGS += -r --no-print-directory
 unexport MAKEFLAGS MFLAGS
 
-.PHONY: quick package test page definitions plain install uninstall clean help
+.PHONY: quick package test page definitions install uninstall clean help
 quick package test: ; @tests/all.sh $@
 page: ; @node page/build.mjs
 definitions: ; @mkdir -p out && tests/documents/definitions.py out/DEFINITIONS.md
-plain: ; @plain/build.sh out/plain
 PREFIX ?= /usr/local
 install: ; @tools/install.sh "$(PREFIX)"
 uninstall: ; @tools/install.sh "$(PREFIX)" remove
 clean: ; rm -rf crates/*/out out $(if $(wildcard crates.txt),python/fhpgas/libfhpgas-*.so page/engine.js)
-help: ; @sed -n 's/^#   //p' Makefile
+help: ; @sed -n 's/^#   //p' Makefile | grep -vE '$(if $(wildcard crates.txt),^$$,^make (  |engine|plain|crate|wheel|archive|release))'
 
 # All below builds. An unpacked archive, in which the rest works too, has no crates.
 ifneq ($(wildcard crates.txt),)
-.PHONY: all engine wheel archive release again
+.PHONY: all engine plain crate wheel archive release again
 program := crates/fhpgas/out/fhpgas
 engine := $(addprefix python/fhpgas/libfhpgas-x86-64-,v2.so v3.so) $(if $(shell command -v wasm-opt),page/engine.js)
 
@@ -51,9 +51,9 @@ files = crates.txt $(shell find $(call below,$1) -mindepth 1 \( -name out -o -na
 
 # One build at a time works here. What it makes is as old as its begin, so a source that is edited meanwhile is newer. Of its log is told
 # what is proved, or what is not.
+alone = exec {held}< crates.txt; flock -n $$held || { echo 'waiting for another make to end'; flock $$held; }
 define begin
-exec {held}< crates.txt
-flock -n $$held || { echo 'waiting for another make to end'; flock $$held; }
+$(alone)
 ! make -sq CPU=$(CPU) $@ || exit 0
 said=$$(rt doc 2>&1) || { echo "the Rattle kit does not answer, see README.md: $$said" >&2; exit 1; }
 cd crates/$1
@@ -79,8 +79,20 @@ $(engine) &: $(call files,gas_export) tools/inside.sh
 	../../tools/inside.sh < /dev/null 2>&1 | tell || fail
 	touch -r out/begun $(engine:%=../../%)
 
+# By plain Rust. The launcher has it built if it is older than its sources or for a level that this machine lacks.
+plain := out/plain/fhpgas
+plain: ; @$(call alone); plain/build.sh out/plain
+crate: ; @plain/crate.py out/crate
+$(plain): crates.txt include/fhpgas.h $(shell find crates/*/src plain/* -name __pycache__ -prune -o -print) \
+        $(if $(filter-out native x86-64-v2 $(own),$(shell cat out/plain/level 2> /dev/null)),again)
+	@$(call alone)
+	! make -sq $@ || exit 0
+	QUIET=yes plain/build.sh out/plain
+
 # The next build is for this machine again.
-wheel: all ; @tools/built.sh out/built $(program) && tools/wheel.sh out out/built && tools/wheel.sh out any && rm crates/fhpgas/out/level
-archive: $(if $(FILE),all) ; @tools/archive.sh "$(FILE)" $(program) && rm crates/fhpgas/out/level
-release: all ; @tools/release.sh out/release $(program) && rm crates/fhpgas/out/level
+packed := $(if $(shell command -v rt),all)
+wheel: $(packed) ; @rm -rf out/built && tools/built.sh out/built $(program) && tools/wheel.sh out out/built && tools/wheel.sh out any && $(forget)
+archive: $(if $(FILE),$(packed)) ; @tools/archive.sh "$(FILE)" $(program) && $(forget)
+release: $(packed) ; @tools/release.sh out/release $(program) && $(forget)
+forget := rm -f crates/fhpgas/out/level
 endif

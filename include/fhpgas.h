@@ -1,7 +1,8 @@
 /* fhpgas: a lattice gas in memory that the caller gives.
  *
- * Each call is proved (docs/PROVED.md): it reads and writes nothing but its arguments, takes no memory, starts no thread, and returns.
- * What it refuses, it leaves unchanged. A call looks at every number, length and byte that it is given.
+ * A call reads and writes nothing but its arguments, takes no memory, starts no thread, and returns. What it refuses, it leaves unchanged. A
+ * call looks at every number, length and byte that it is given. This is proved (docs/PROVED.md) of the library that the Rattle kit builds,
+ * and of no library that has a function fhpgas_not_proved: that one is plain Rust of the same sources, and the function says of which build.
  *
  * THE CALLER OWES, for nothing can look at it: a pointer is valid for its length and aligned to its type, the arrays of one call do not
  * overlap, and nobody reads or writes them until it returns. Calls over different arrays may run side by side.
@@ -9,7 +10,7 @@
  * A lattice is periodic in x, and has walls above its first row and below its last one. Row 0 is at the top.
  *
  * PLANES. A plane has a bit per cell. A row of a plane has a word for each 64 cells, width / 64 rounded up: bit b of word j is cell
- * 64 * j + b. Bits past the width are never looked at, and fhpgas_pack writes them as zero. An array of n planes has row 0 first,
+ * 64 * j + b. Bits past the width have no effect, and fhpgas_pack writes them as zero. An array of n planes has row 0 first,
  * and of each row the words of plane 0, then those of plane 1, and so on. A state is a number with bit i for a particle in direction i, so
  * the states of a gas are as many planes as it has directions. The solid cells are one plane, 1 where a cell is solid.
  *

@@ -1,10 +1,10 @@
 #!/bin/bash
 # Packs the sources as plain Rust into FOLDER, for `cargo build --release --offline` without Python or a network, and what they build for
 # Linux on x86-64, and with the word `aarch64` on ARM 64 too: the program and a wheel. The builds trust the proofs of TEXT and check no index.
-# The crates of others, with their licences, are the ones with which out/plain was built and tested. No part of the kit is in them.
+# The crates of others, with their licences, are the ones with which out/checked was built and tested. No part of the kit is in them.
 set -euo pipefail
 shopt -s nullglob
-if [ -z "${2-}" ]; then echo 'usage: plain/archive.sh FOLDER TEXT [aarch64]' >&2; exit 2; fi
+if [ $# -lt 2 ]; then echo 'usage: plain/archive.sh FOLDER TEXT [aarch64]' >&2; exit 2; fi
 mkdir -p "$1"
 folder=$(realpath -- "$1")
 cd "$(dirname "$0")/.."
@@ -15,9 +15,10 @@ trap 'rm -rf "$room"' EXIT
 name=fhpgas-$version-rust
 made=$room/$name
 
-plain/workspace.py "$made" --proved "$2"
+plain/workspace.py "$made" ${2:+--proved "$2"}
 registry=$(sed -n 's/^directory = "\(.*\)"/\1/p' "$made/.cargo/config.toml")
-cp out/plain/workspace/Cargo.lock LICENSE-MIT LICENSE-APACHE docs/NOTICES.md include/fhpgas.h "$made"
+cp out/checked/workspace/Cargo.lock "$made" 2> /dev/null || env -C "$made" cargo generate-lockfile --quiet --offline
+cp LICENSE-MIT LICENSE-APACHE docs/NOTICES.md include/fhpgas.h "$made"
 mkdir -p "$made/vendor" "$room/licences/rust"
 awk -F '"' '/^name/ { name = $2 } /^version/ { version = $2 } /^source/ { print name "-" version }' "$made/Cargo.lock" | while read -r crate; do
     cp -r "$registry/$crate" "$made/vendor"
@@ -32,11 +33,13 @@ fhpgas $version by plain Rust. Needs Rust 1.85 or later and a linker.
 
     cargo build --release --offline
 
-makes target/release/fhpgas, and the library for C of fhpgas.h. The sources are made from the proved ones of Luqembisho, ${2}, whose
+makes target/release/fhpgas, and the library for C of fhpgas.h. The sources are made from the proved ones of Luqembisho, ${2:-edited}, whose
 proofs a release build trusts. What this compiler makes of them is tested and not proved. A build without --release checks each index.
 vendor/ has the crates of others, each with its licence (NOTICES.md).
 END
 tar -C "$room" -czf "$folder/$name.tar.gz" "$name"
+plain/crate.py "$room/crate"
+(cd "$room/crate" && cargo package --quiet --offline --allow-dirty --no-verify && cp target/package/*.crate "$folder") # for crates.io
 
 # build LEVEL WORDS..: from the archive alone, in release/ or in release/ of a target
 build() { env -C "$made" RUSTFLAGS="-Ctarget-cpu=$1" cargo build --release --offline --locked --quiet "${@:2}"; }

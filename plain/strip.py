@@ -1,11 +1,13 @@
 """Rust from Rattle's sources: blanks what only the prover reads, and keeps every line where it is.
 
 What goes: ghost items and fields, clauses (`requires`, `ensures`), `#[tactic]`, the derive of Drop.
+What a function requires becomes the last paragraphs of its documentation.
 What is written otherwise: the paths of Rattle's library become the shim's, an index `a[i]` becomes
 `a[At(i)]`, calls that take an allocator get names of their own, `main` and tests make the runtime
 that Rattle gives them, and a call for C takes each slice as a pointer and a length.
 """
 
+import json
 import re
 
 # A comment, a text, a character, a path's first name, a word, white space, or one character more.
@@ -23,7 +25,10 @@ TOKEN = re.compile(
     re.X | re.S,
 )
 GHOST = re.compile(r"^[ \t]*ghost[ \t]", re.M)
-CLAUSE = re.compile(r"^[ \t]*(?:requires|ensures)[ \t]+(?:[^\s{}]+[ \t]+)?(?=\{)", re.M)
+CLAUSE = re.compile(r"^[ \t]*(requires|ensures)[ \t]+(?:[^\s{}]+[ \t]+)?(?=\{)", re.M)
+FUNCTION = re.compile(
+    r'^[ \t]*(?:#\[doc = ".*"\] )?((?:pub(?:\(\w+\))? |const |extern "C" )*fn )', re.M
+)
 TACTIC = re.compile(r"#!?(?=\[tactic\()")
 DERIVE = re.compile(r"#\[derive\(([^)]*)\)\]")
 # Words after which `[` begins a value or a type. Elsewhere it is an index if no space is before it.
@@ -80,11 +85,25 @@ def without_proofs(text: str) -> str:
         end = end_of_ghost(text, found.end())
         kept = without_documentation(text[: found.start()])
         text = kept + blank(text[found.start() : end]) + text[end:]
-    for pattern in CLAUSE, TACTIC:
-        while found := pattern.search(text):
-            end = end_of_group(text, found.end())
-            text = text[: found.start()] + blank(text[found.start() : end]) + text[end:]
+    while found := TACTIC.search(text):
+        end = end_of_group(text, found.end())
+        text = text[: found.start()] + blank(text[found.start() : end]) + text[end:]
+    while found := CLAUSE.search(text):
+        end = end_of_group(text, found.end())
+        before = text[: found.start()]
+        if found[1] == "requires":
+            before = with_requirement(before, text[found.end() + 1 : end - 1])
+        text = before + blank(text[found.start() : end]) + text[end:]
     return text
+
+
+def with_requirement(text: str, formula: str) -> str:
+    """A text whose last function has a formula as the last paragraph of its documentation."""
+    place = max((found.start(1) for found in FUNCTION.finditer(text)), default=None)
+    if place is None:
+        raise NotPlain(f"a requirement of no function: {formula}")
+    said = json.dumps(f"\n\nRequires `{' '.join(formula.split())}`.", ensure_ascii=False)
+    return f"{text[:place]}#[doc = {said}] {text[place:]}"
 
 
 def derived(found: re.Match[str]) -> str:

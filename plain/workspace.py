@@ -3,7 +3,8 @@
 
     plain/workspace.py FOLDER            a build of it looks at every index
     plain/workspace.py FOLDER --proved TEXT
-                                         a release build trusts the proofs of the text of this name
+                                         a release build of program and library trusts the proofs
+                                         of the text of this name (--no-default-features: none)
 
 Then `cargo build --release` in the folder builds the program and the library for C. If Debian's
 packages of crates are installed, it takes these, and no network (`--offline`)."""
@@ -36,10 +37,18 @@ clap = {{ version = "4", default-features = false, features = [{clap}], optional
 toml = {{ version = "0.5", optional = true }}
 
 [features]
-default = [{default}]
 std = ["clap", "toml"]
 trusting = []
 """
+# Program and library are taken as the proofs say: nobody calls what is inside of them.
+TRUSTING = """\
+
+[features]
+default = [{default}]
+trusting = ["shim/trusting"]
+"""
+PROGRAM = '[[bin]]\nname = "fhpgas"\npath = "src/main.rs"\ntest = false\n\n'
+LIBRARY = '[lib]\nname = "fhpgas"\ncrate-type = ["cdylib"]\ndoc = false\n\n'
 CLAP = '"std", "help", "usage", "error-context", "suggestions"'
 # Rust's own ChaCha chooses the best instructions as it runs, where there is a system.
 ENGINE = """\
@@ -159,11 +168,14 @@ def write_sources(name: str, to: pathlib.Path, is_bare: bool) -> None:
         write(to / "src" / path.relative_to(sources).with_suffix(".rs"), text)
 
 
+def trusting(proved: str | None) -> str:
+    return TRUSTING.format(default='"trusting"' if proved else "")
+
+
 def write_shim(folder: pathlib.Path, proved: str | None) -> None:
     about = f"plain Rust, trusts the proofs of {proved}, not proved" if proved else "plain Rust"
-    text = SHIM.format(clap=CLAP, default='"trusting"' if proved else "")
-    write_manifest(folder / "shim", text, about=about)
-    write_manifest(folder / "engine", ENGINE, '[lib]\nname = "fhpgas"\ncrate-type = ["cdylib"]\n\n')
+    write_manifest(folder / "shim", SHIM.format(clap=CLAP), about=about)
+    write_manifest(folder / "engine", ENGINE + trusting(proved), LIBRARY)
     interface = written("include/fhpgas.h", r"FHPGAS_INTERFACE (\d+)")
     write(folder / "engine/build.rs", BUILD.format(interface=interface))
     for name in "shim", "engine":
@@ -174,7 +186,11 @@ def make(folder: pathlib.Path, proved: str | None, registry: pathlib.Path = DEBI
     uses = crates()
     bare = below("gas_export", uses)
     for name in uses:
-        write_manifest(folder / name, dependencies(name, uses, name in bare))
+        text = dependencies(name, uses, name in bare)
+        if name == "fhpgas":
+            write_manifest(folder / name, text + trusting(proved), PROGRAM)
+        else:
+            write_manifest(folder / name, text)
         write_sources(name, folder / name, name in bare)
     write_shim(folder, proved)
     members = ", ".join(f'"{name}"' for name in ["shim", "engine", *uses])

@@ -10,13 +10,14 @@ file=$(realpath -- "$1")
 cd "$(dirname "$0")/.."
 program=${2:-crates/fhpgas/out/fhpgas}
 level=$(cat "${program%/*}/level" 2> /dev/null || echo x86-64-v2) # rt builds for v2, without writing the level down
-version=$($program --version)
 room=$(mktemp -d)
 trap 'rm -rf "$room" "$file.new"' EXIT
-name=${version% (*}
-folder=$room/${name/ /-}-$level
-mkdir "$folder"
 tools/built.sh "$room/built" "$program"
+program=$room/built/fhpgas version=$("$room/built/fhpgas" --version)
+case $version in *'not proved)') plain=-plain ;; *) plain='' ;; esac
+name=${version% (*}
+folder=$room/${name/ /-}$plain-$level
+mkdir "$folder"
 cp -r "$room"/built/{fhpgas,licences} LICENSE-MIT LICENSE-APACHE README.md CHANGELOG.md CITATION.cff CONTRIBUTING.md Makefile "$folder"
 cp MANIFEST.in pyproject.toml setup.py "$folder"
 cp -r @(docs|examples|experiments|include|notebooks|page|python|scenes|tests) "$folder"
@@ -50,14 +51,14 @@ The program needs Linux on x86-64, a processor of that level, and the C library 
 $(grep -aoP 'GLIBC_\K2[.0-9]+' "$program" | sort -V | tail -n 1) or later. The Python package needs Python 3.11 and numpy, its pictures matplotlib, smoothing and fits
 scipy. pip installs it from the .whl file without a network. Begin with docs/GUIDE.md. Who changes the package tries it by make package.
 
-This program is taken on the word of who made it. A build from the sources of Luqembisho proves each part of it first, and
+$(if [ -n "$plain" ]; then echo 'This program is built by plain Rust, and is not proved.'; else echo 'This program is taken on the word of who made it. A build from the sources of Luqembisho proves each part of it first, and
 makes nothing if a proof fails; but a program by itself holds no proof, and nothing here shows that this one came from such
-a build. RECORD, if it is here, has what their tests printed, and the checksum of this program.
+a build. RECORD, if it is here, has what their tests printed, and the checksum of this program.'; fi)
 
 The licence of the program, the package and the documents is MIT or Apache-2.0, at your choice. The folder licences has the
-notices of the libraries that are in the program and in the engine, python/fhpgas/libfhpgas-*.so and page/engine.js. For
-libraries of its own, such as core, std and atomic_table, the Rattle kit names no licence: ask its distributor before you
-pass these files on (docs/NOTICES.md). Tables of core are made of Unicode's data.
+notices of the libraries that are in the program and in the engine, python/fhpgas/libfhpgas-*.so and page/engine.js.
+$([ -n "$plain" ] || echo "For libraries of its own, such as core, std and atomic_table, the Rattle kit names no licence: ask its distributor before you
+pass these files on (docs/NOTICES.md). Tables of core are made of Unicode's data.")
 END
 tar -C "$room" -czf "$file.new" "${folder##*/}"
 mv "$file.new" "$file"

@@ -12,19 +12,21 @@ has() { "${@:2}" 2> /dev/null || [ "${DRAFT-}" = yes ] || lacks+=("$1"); }
 
 lacks=()
 program=${2:-crates/fhpgas/out/fhpgas}
-version=$("$program" --version | cut -d ' ' -f 2)
+version=$(sed -n 's/^version: //p' CITATION.cff)
 commit=$(git rev-parse HEAD)$([ -z "$(git status --porcelain)" ] || echo ', changed')
 has 'the address of the project (repository-code in CITATION.cff)' grep -q '^repository-code: .' CITATION.cff
 has "the tag v$version" grep -qx "v$version" <(git tag --points-at HEAD)
 has 'the record that make test leaves' test -e out/record
 has 'the sources that its record names' grep -qx "commit *$commit" out/record
-has 'the build of plain Rust that make test tries' test -e out/plain/workspace/Cargo.lock
+has 'cargo' type cargo > /dev/null
+has 'the build of plain Rust that make test tries' test -e out/checked/workspace/Cargo.lock
 has 'gcc and qemu for ARM 64 (apt-get install gcc-aarch64-linux-gnu qemu-user)' type aarch64-linux-gnu-gcc qemu-aarch64 > /dev/null
 has 'the reference of the package (apt-get install python3-sphinx python3-numpydoc)' "${python:-python3}" -c 'import sphinx, numpydoc'
 [ ${#lacks[@]} = 0 ] || { printf 'a release has %s, or is made with DRAFT=yes\n' "${lacks[@]}" >&2; exit 1; }
 rm -rf "$folder"
 mkdir -p "$folder"
-archive=$folder/fhpgas-$version-linux-x86-64.tar.gz # fhpgas-VERSION.tar.gz is the name of the package's source
+[ -e "$program" ] && kind='' || kind=plain- # where no kit built a program
+archive=$folder/fhpgas-$version-${kind}linux-x86-64.tar.gz # fhpgas-VERSION.tar.gz is the name of the package's source
 tools/archive.sh "$archive" "$program"
 tar -xzf "$archive" -C "$folder" --strip-components=1 --wildcards '*/fhpgas-*.whl'
 tools/wheel.sh "$folder" any
@@ -32,7 +34,9 @@ cp page/fhpgas.html docs/NOTICES.md LICENSE-MIT LICENSE-APACHE "$folder"
 sed -E 's/\[([^]]*)\]\([^)]*\)/\1/g' docs/LESSON.md > "$folder/LESSON.md" # without links, because the other documents are in the archive
 [ ! -e page/engine.js ] || cp page/engine.js "$folder"
 if [ -e out/record ]; then cp out/record "$folder/RECORD"; fi
-if [ "${DRAFT-}" = yes ]; then
+if ! command -v cargo > /dev/null; then
+    echo 'plain/ is left out, because cargo is missing' >&2
+elif [ "${DRAFT-}" = yes ]; then
     plain/archive.sh "$folder/plain" "a draft of commit $commit"
 else
     plain/archive.sh "$folder/plain" "commit $commit" aarch64

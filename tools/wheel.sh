@@ -1,7 +1,8 @@
 #!/bin/bash
 # Makes the wheel of the Python package, with the page in it, in FOLDER, without a network: for the system of BUILT, a folder that has the
 # program fhpgas, the engine's libraries libfhpgas-*.so, and in licences/ the notices of what is in them (tools/built.sh makes one), perhaps
-# the page's engine.js too; or with the word `any` for every system, without them, and the source distribution.
+# the page's engine.js too; beside it one of the engine alone, if this wants a C library no newer than glibc 2.17; or with the word `any` one
+# for every system, without them, and the source distribution.
 set -euo pipefail
 if [ -z "${2-}" ]; then echo 'usage: tools/wheel.sh FOLDER BUILT|any' >&2; exit 2; fi
 mkdir -p "$1"
@@ -20,4 +21,6 @@ else
     cp -r "$built"/{fhpgas,libfhpgas-*.so,licences} python/fhpgas
     [ ! -e "$built/engine.js" ] || cp "$built/engine.js" page
 fi
-"${python:-python3}" -m pip wheel -q --no-deps --no-index --no-build-isolation -w "$folder" .
+pack() { rm -rf build && "${python:-python3}" -m pip wheel -q --no-deps --no-index --no-build-isolation -w "$1" .; }
+pack "$folder"
+[ "$2" = any ] || { rm python/fhpgas/fhpgas && pack "$room/engine" && find "$room/engine" -name '*_2_17_*' -exec cp {} "$folder" \;; }

@@ -15,8 +15,8 @@ A *filling* is the chance per direction, 0 to 1, and a *density* the particles p
 the rules of a lattice: calls that need one have it first, calls that may do without have it last.
 Lengths are in cells' widths, times in generations. Input that does not fit raises a `Fault` of one
 line, a ValueError. `explain(scene)` says where and why a scene is refused, and needs the standard
-library only. The rest needs numpy, pictures need matplotlib, and some functions scipy. The program
-is proved, this package is not."""
+library only. The rest needs numpy, pictures need matplotlib, and some functions scipy. `build()`
+says what engine and program are. This package is not proved."""
 import importlib.util
 import sys
 
@@ -27,11 +27,12 @@ if sys.version_info < (3, 11):  # the first word is -m while `python3 -m fhpgas`
 from .beside import side_by_side
 from .fault import Fault
 from .plans import plan
+from .program import build
 from .refusals import explain
 from .scenes import Summary, check, with_seed
 
 __version__ = "2.0.0"
-__all__ = ["Fault", "Summary", "check", "explain", "plan", "side_by_side", "with_seed"]
+__all__ = ["Fault", "Summary", "build", "check", "explain", "plan", "side_by_side", "with_seed"]
 
 if importlib.util.find_spec("numpy"):
     from . import boltzmann, shapes, theory

@@ -18,12 +18,13 @@ import time
 import warnings
 import webbrowser
 from collections.abc import Callable
-from typing import Any
+from typing import Any, NoReturn
 
 import fhpgas
 
 from . import drawing
-from .fault import Fault, Parser, Usage, add_words, number, one_line_faults, to_write, whole, word
+from .fault import Fault, Parser, Usage, add_words, library, number, one_line_faults, to_write
+from .fault import whole, word
 from .files import is_npz, of_file, read_bytes
 from .gas_table import GASES
 from .limits import DRIVES, FFMPEG, FIELDS, LAST_OF_SCENE, MOST_GENERATIONS, MOST_SEED
@@ -125,8 +126,9 @@ def picture(asked: argparse.Namespace) -> None:
         figure = sources[0].plot(asked.what, axes_of(sources[0]), **options).figure
     with of_file(asked.file):
         figure.savefig(asked.file, dpi=asked.dpi)
-    if images := figure.axes[0].images:
-        print("{} from {:.4g} to {:.4g}".format(asked.what, *images[0].get_clim()))
+    if images := [ax.images[0].get_array() for ax in figure.axes if ax.images and ax.get_xlabel()]:
+        least, most = min(it.min() for it in images), max(it.max() for it in images)
+        print(f"{asked.what} from {least:.4g} to {most:.4g}")
 
 
 def film(asked: argparse.Namespace) -> None:
@@ -254,19 +256,20 @@ def page(asked: argparse.Namespace) -> None:
 
 def numbers(asked: argparse.Namespace) -> None:
     """Prints Mach and Reynolds number of a flow, and the rest."""
-    gas, flow = asked.gas or "fhp1", {"filling": asked.filling, "speed": asked.speed}
+    named: Any = asked.gas or "fhp1"
+    flow = {"filling": asked.filling, "speed": asked.speed}
     if [value is None for value in flow.values()] != [asked.table is not None] * 2:
         raise Usage("a flow has --filling and --speed, or a --table")
     if asked.table is not None:
         found = source(asked.table, asked)
         blocks = found if isinstance(found, fhpgas.Blocks) else found.blocks()
-        gas, particles = blocks.gas.name, blocks.particles.sum()
+        named, particles = blocks.gas, blocks.particles.sum()
         if not particles:
             raise Fault(f"{asked.table} has no particle, so no flow")
         x, y = blocks.gas.units * (blocks.px.sum(), blocks.py.sum()) / particles
         filling = particles / blocks.gas.directions / blocks.fluid.sum()
         flow = {"filling": filling, "speed": math.hypot(x, y)}
-    told = fhpgas.numbers(gas, **flow, length=asked.length, chirality=asked.chirality)._asdict()
+    told = fhpgas.numbers(named, **flow, length=asked.length, chirality=asked.chirality)._asdict()
     if told["mach"] > 1:
         warnings.warn("the flow is faster than sound, for which no formula here is made")
     for name, value in (flow | told if asked.table else told).items():
@@ -337,9 +340,18 @@ COMMANDS: dict[Callable[[argparse.Namespace], None], str] = {
 }
 
 
+class Version(argparse.Action):
+    """Prints the version, and what engine and program are."""
+
+    def __call__(self, parser: argparse.ArgumentParser, *_: Any) -> NoReturn:
+        told = {"fhpgas-tools": fhpgas.__version__} | fhpgas.build()
+        print(*(f"{name} {what}" for name, what in told.items()), sep="\n")
+        parser.exit()
+
+
 def reader(name: str) -> Parser:
     top = Parser(name, description=__doc__)
-    top.add_argument("--version", action="version", version=f"fhpgas-tools {fhpgas.__version__}")
+    top.add_argument("--version", action=Version, nargs=0, help="show what this is and exit")
     commands = top.add_subparsers(required=True, metavar="COMMAND")
     for function, words in COMMANDS.items():
         about = inspect.getdoc(function) or ""
@@ -361,13 +373,8 @@ def main(words: list[str] | None = None) -> None:
         asked = reader("python3 -m fhpgas" if name == "__main__.py" else name).parse_args(words)
         try:
             if asked.function is not explain:
-                importlib.import_module("numpy")
+                library("numpy")
             asked.function(asked)
-        except ModuleNotFoundError as missing:
-            name = str(missing.name).lower()
-            debian = f", or Debian's python3-{name}" * (sys.prefix == "/usr")
-            why = f"{sys.executable} lacks the package {name}: pip install {name}{debian}"
-            raise Fault(why) from None
         except OSError as fault:
             if fault.filename is None:  # of standard output
                 raise

@@ -8,10 +8,11 @@ from typing import Any, ClassVar
 import numpy as np
 
 from . import forms
-from .fault import Fault, real
+from .fault import Fault, library, real
 from .files import Path, read_bytes, write_whole
-from .fields import Size, number_of, pair_checked, size_of
-from .gases import Array, Gas, array_of, gas_named, read_only
+from .fields import AnySize, Size, number_of, pair_checked, size_of
+from .gases import AnyGas, Array, Gas, array_of, gas_named, read_only
+from .limits import Quantity
 from .planes import Sized
 from .scenes import naming
 
@@ -40,7 +41,9 @@ class Value(Sized):
     def __hash__(self) -> int:
         return hash(tuple(np.asarray(each).tobytes() for each in self._values()))
 
-    def plot(self: Any, what: Any = None, ax: Any = None, **options: Any) -> Any:
+    def plot(
+        self: Any, what: Quantity | Array | None = None, ax: Any = None, **options: Any
+    ) -> Any:
         """Shows the value on Axes of matplotlib.
 
         Parameters
@@ -300,8 +303,7 @@ class Blocks(Value):
         >>> bool(start.blocks().smooth().density.std() < start.blocks().density.std())
         True
         """
-        from scipy.ndimage import gaussian_filter
-
+        gaussian_filter = library("scipy.ndimage").gaussian_filter
         sigma, (rows, columns) = real("sigma", sigma, 0, 100), self.fluid.shape
         reach = int(4 * sigma + 0.5)  # of scipy's Gaussian
         places, signs = _mirrored(self.fluid > 0, reach)
@@ -335,15 +337,13 @@ def _mirrored(is_fluid: Array, reach: int) -> tuple[tuple[Array, Array], Array]:
     """The rows and columns of blocks that are the mirror images of the ones up to `reach` blocks
     around an array, and in its solid places, and the signs of their momenta. A solid block
     mirrors what is as far from the surface, on the other side of the nearest fluid block."""
-    from scipy.ndimage import distance_transform_edt
-
     rows, columns = is_fluid.shape
     y, x = np.arange(-reach, rows + reach), np.arange(-reach, columns + reach) % columns
     signs = (1 - 2 * (y // rows % 2))[:, None] * np.ones_like(x)
     y = np.pad(np.arange(rows), reach, "symmetric")
     around, here = is_fluid[np.ix_(y, x)], np.indices(signs.shape)
     if not around.all() and around.any():
-        apart, near = distance_transform_edt(~around, return_indices=True)
+        apart, near = library("scipy.ndimage").distance_transform_edt(~around, return_indices=True)
         far = here + np.rint((near - here) * (2 - 1 / np.maximum(apart, 1))).astype(int)
         far = far.clip(0, np.array(signs.shape)[:, None, None] - 1)
         here = np.where(around | ~around[tuple(far)], near, far)
@@ -370,7 +370,7 @@ def _slope(values: Array, places: Array) -> Array:
 
 
 def read_table(
-    text: str | bytes, gas: str | Gas, block: tuple[int, int], size: Any, generation: int = 0
+    text: str | bytes, gas: AnyGas, block: tuple[int, int], size: AnySize, generation: int = 0
 ) -> Blocks:
     """The blocks of a table that `fhpgas coarse` printed.
 
@@ -416,7 +416,7 @@ def read_table(
         what = f"no whole table of `coarse` with {columns} columns and {rows} rows of blocks"
         raise Fault(f"this is {what}") from None
     fluid, particles, px, py = np.moveaxis(table[..., 2:], -1, 0)
-    blocks = Blocks(fluid, particles, px, py, gas_named(gas), block, size, generation)
+    blocks = Blocks(fluid, particles, px, py, gas_named(gas), block, size_of(size), generation)
     for name, most in blocks.most().items():
         if (wrong := np.abs(getattr(blocks, name)) > most).any():
             row, column = np.argwhere(wrong)[0]

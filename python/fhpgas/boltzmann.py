@@ -18,10 +18,11 @@ import numpy as np
 from .fault import Fault, integer, real
 from .fields import equilibrium
 from .gas_table import CHIRALITIES, TRIPLES
-from .gases import STATES, TOO_FEW, Array, Gas, array_of, chirality_named, gas_named
+from .gases import STATES, TOO_FEW, AnyGas, Array, Chirality, Gas, array_of, chirality_named
+from .gases import gas_named
 
 
-def collision_matrix(gas: str | Gas, filling: Any, chirality: str = "seeded") -> Array:
+def collision_matrix(gas: AnyGas, filling: Any, chirality: Chirality = "seeded") -> Array:
     """What a collision adds to small deviations of the chances from an equal filling, a number or
     an array [..] above 0 and below 1: the matrix [.., b, b] by which the deviations [b] are
     multiplied."""
@@ -31,7 +32,9 @@ def collision_matrix(gas: str | Gas, filling: Any, chirality: str = "seeded") ->
     return np.asarray(named.changes(chirality).T @ slopes)
 
 
-def generation_matrix(gas: str | Gas, filling: Any, wave: Any, chirality: str = "seeded") -> Array:
+def generation_matrix(
+    gas: AnyGas, filling: Any, wave: Any, chirality: Chirality = "seeded"
+) -> Array:
     """What a generation makes of plane waves of small deviations from an equal filling, without
     walls: the matrix [.., b, b] by which the chances [b] of the wave vectors `wave` [.., 2]
     (eastwards and northwards, per cell's width) are multiplied. An eigenvalue exp(-r - i w) is a
@@ -43,10 +46,10 @@ def generation_matrix(gas: str | Gas, filling: Any, wave: Any, chirality: str = 
 
 
 def pair_closure(
-    gas: str | Gas,
+    gas: AnyGas,
     filling: float,
     start: Any,
-    chirality: str = "seeded",
+    chirality: Chirality = "seeded",
     triples: float = 1.0,
     size: int = 128,
 ) -> Iterator[tuple[Array, Array]]:
@@ -99,7 +102,7 @@ def pair_closure(
     return _pairs(named, collision, chances.astype(float), np.zeros((number, number, cells, cells)))
 
 
-def _pair_collision(gas: Gas, d: float, chirality: str, triples: float) -> Array:
+def _pair_collision(gas: Gas, d: float, chirality: Chirality, triples: float) -> Array:
     """What a collision makes of small deviations of the chances of a cell and of the correlations
     of its pairs (i, j), i < j: the matrix by which both [b + b(b-1)/2] are multiplied."""
     states = STATES[: 1 << gas.directions]
@@ -126,7 +129,8 @@ def _pairs(
     while True:
         yield chances, pairs
         met = collision @ np.concatenate((chances, pairs[i, j, 0, 0]))
-        apart = np.einsum("ac,bd,cdyx->abyx", single, single, pairs, optimize=True)
+        apart = (single @ pairs.reshape(number, -1)).reshape(number, number, -1)
+        apart = (single @ apart).reshape(pairs.shape)
         apart[..., 0, 0] = 0.0
         apart[i, j, 0, 0] = apart[j, i, 0, 0] = met[number:]
         chances, pairs = met[:number], np.empty_like(pairs)
@@ -161,7 +165,7 @@ class Flow:
     """
 
     def __init__(
-        self, gas: str | Gas, solid: Any, chirality: str = "seeded", has_walls: bool = True
+        self, gas: AnyGas, solid: Any, chirality: Chirality = "seeded", has_walls: bool = True
     ):
         self.gas, self.solid = gas_named(gas), array_of("solid cells", solid).astype(bool)
         if self.solid.ndim != 2 or not self.solid.size:

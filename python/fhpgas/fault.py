@@ -2,6 +2,7 @@
 import argparse
 import contextlib
 import functools
+import importlib
 import io
 import math
 import operator
@@ -52,6 +53,19 @@ def real(what: str, value: Any, least: float = -math.inf, most: float = math.inf
         if math.isfinite(number := float(value)) and least <= number <= most:
             return number
     raise Fault(f"{what} is a number from {least:g} to {most:g}, not {reprlib.repr(value)}")
+
+
+def library(name: str) -> Any:
+    """A module of a library that some calls need. If it is missing, a Fault names its package."""
+    try:
+        return importlib.import_module(name)
+    except ModuleNotFoundError as missing:
+        package = str(missing.name).partition(".")[0].lower().replace("pil", "pillow")
+        debian = f", or Debian's python3-{package.replace('pillow', 'pil')}" * (
+            sys.prefix == "/usr"
+        )
+        why = f"{sys.executable} lacks the package {package}: pip install {package}{debian}"
+        raise Fault(why) from None
 
 
 class Parser(argparse.ArgumentParser):

@@ -7,13 +7,15 @@ q.c_i)), where c_i is its velocity. The sum of N_i must be b d, and the sum of N
 Systems 1 (1987) 649)."""
 import reprlib
 from collections.abc import Callable, Iterable
-from typing import Any, NamedTuple
+from typing import TYPE_CHECKING, Any, NamedTuple, TypeAlias
 
 import numpy as np
 
 from .fault import Fault, integer, seed_of
-from .gases import Array, Gas, array_of, gas_named
+from .gases import AnyGas, Array, Gas, array_of, gas_named
 
+if TYPE_CHECKING:
+    from .planes import Sized
 Field = float | Array | Callable[[Array, Array], Any]
 STREAMS = "porous", "driven"  # the calls beside `gas` that draw from a seed
 CACHED = 1 << 17  # words of random bits, or cells, that are worked on at a time
@@ -44,7 +46,10 @@ class Size(NamedTuple):
         return f"{self.columns} x {self.rows}"
 
 
-def size_of(size: Any) -> Size:
+AnySize: TypeAlias = "Size | Sized | Array"
+
+
+def size_of(size: AnySize) -> Size:
     """The Size that a `size` is or has, each way at least 1."""
     found = getattr(size, "size", size)
     if isinstance(size, np.ndarray) and size.ndim == 2:
@@ -77,7 +82,7 @@ def number_of(size: Size, block: tuple[int, int]) -> Size:
 
 
 def positions(
-    size: Any, gas: str | Gas = "fhp1", rows: slice = slice(None), columns: slice = slice(None)
+    size: AnySize, gas: AnyGas = "fhp1", rows: slice = slice(None), columns: slice = slice(None)
 ) -> tuple[Array, Array]:
     """The places of the cells' middles, in cells' widths.
 
@@ -108,7 +113,7 @@ def positions(
     return x + named.shift * (y % 2), (height - 0.5 - y) * named.row_distance
 
 
-def equilibrium(gas: str | Gas, filling: Any, east: Any = 0.0, north: Any = 0.0) -> Array:
+def equilibrium(gas: AnyGas, filling: Any, east: Any = 0.0, north: Any = 0.0) -> Array:
     """The chances that the directions of a cell contain a particle, at equilibrium.
 
     Parameters

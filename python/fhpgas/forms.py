@@ -9,7 +9,7 @@ from typing import TYPE_CHECKING, Any
 
 import numpy as np
 
-from .fault import Fault
+from .fault import Fault, library
 from .fields import Size, positions
 
 if TYPE_CHECKING:
@@ -77,8 +77,6 @@ def to_xarray(value: Any) -> Dataset:
     xarray.Dataset
         Arrays with the dimensions y and x; the other parts are its attributes.
     """
-    import xarray
-
     parts = parts_of(value)
     fields = UNITS if "fluid" in parts else ("states", "solid")
     data = {
@@ -88,7 +86,7 @@ def to_xarray(value: Any) -> Dataset:
     time = ((), float(kept.pop("generation")), {"long_name": "generation"})
     if "seed" in kept:
         kept["seed"] = str(kept["seed"])
-    return xarray.Dataset(data, _places(value) | {"generation": time}, kept)
+    return library("xarray").Dataset(data, _places(value) | {"generation": time}, kept)
 
 
 def _places(value: Any) -> dict[str, Any]:

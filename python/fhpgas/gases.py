@@ -3,9 +3,10 @@ as docs/FORMATS.md lists them."""
 import functools
 import reprlib
 from collections.abc import Iterable
-from typing import Any
+from typing import Any, Literal, TypeAlias, cast
 
 import numpy as np
+from numpy.typing import NDArray
 
 from . import gas_table
 from .fault import Fault
@@ -13,6 +14,10 @@ from .gas_table import CHIRALITIES
 from .limits import DRIVES
 
 Array = np.ndarray[Any, np.dtype[Any]]
+States: TypeAlias = NDArray[np.uint8]
+Mask: TypeAlias = NDArray[np.bool_]
+AnyGas: TypeAlias = "Literal['fhp1', 'hpp', 'fhp-rest'] | Gas"
+Chirality: TypeAlias = Literal["seeded", "left", "right"]
 STATES = np.arange(128, dtype=np.uint8)
 TOO_FEW = "too few particles to turn: the flow is too fast, the force too large, the gas too thin"
 
@@ -42,7 +47,7 @@ def floats_of(what: str, values: Iterable[Any], why: str) -> Array:
         raise Fault(why) from None
 
 
-def mask(values: Any) -> Array:
+def mask(values: Any) -> Mask:
     """Truth values, or numbers that are 0 or 1, as a new array of truth values. Anything else, such
     as an image's greys, raises a Fault."""
     array = array_of("solid cells", values)
@@ -135,11 +140,11 @@ class Gas:
         east = self.velocities[[pair[0] for pair in pairs], 0]
         return tuple((*pair, c / 2 / (east @ east)) for pair, c in zip(pairs, east.tolist()))
 
-    def draws(self, chirality: str) -> bool:
+    def draws(self, chirality: Chirality) -> bool:
         """Whether collisions take random bits."""
         return chirality == "seeded" and not self.is_square
 
-    def changes(self, chirality: str) -> Array:
+    def changes(self, chirality: Chirality) -> Array:
         """What a collision adds to the particles [128, b] of a state, on average over the sides."""
         sides = CHIRALITIES[chirality_named(chirality)]
         return np.mean([self.bits[self.collisions(side)] for side in sides], 0) - self.bits
@@ -148,7 +153,7 @@ class Gas:
 GASES = {name: Gas(name) for name in gas_table.GASES}
 
 
-def gas_named(name: str | Gas) -> Gas:
+def gas_named(name: AnyGas) -> Gas:
     """The gas of a name, or a gas itself.
 
     Parameters
@@ -172,12 +177,13 @@ def gas_named(name: str | Gas) -> Gas:
     if isinstance(name, Gas):
         return name
     if not isinstance(name, str) or name not in GASES:
-        raise Fault(f"a gas is one of {', '.join(GASES)}, not {reprlib.repr(name)}")
+        found = f"{', '.join(GASES)}, not {reprlib.repr(name)}"
+        raise Fault(f"a gas is one of {found}: fhp-rest is FHP-II")
     return GASES[name]
 
 
-def chirality_named(name: str) -> str:
+def chirality_named(name: Any) -> Chirality:
     """A chirality, "seeded", "left" or "right". Any other value raises a Fault."""
     if not isinstance(name, str) or name not in CHIRALITIES:
         raise Fault(f"a chirality is one of {', '.join(CHIRALITIES)}, not {reprlib.repr(name)}")
-    return name
+    return cast(Chirality, name)

@@ -9,14 +9,16 @@ import numpy as np
 
 from . import drive, engine, fields, forms, limits, long_runs
 from .blocks import Blocks, Value, read_table
-from .cells import cells_of, codes_of, lines_of
+from .cells import CODES, cells_of, codes_of, lines_of, parts_of
 from .fault import Fault, integer, seed_of
+from .fields import AnySize
 from .files import Path, is_npz
-from .gases import Array, Gas, array_of, chirality_named, gas_named, mask, read_only
+from .gases import AnyGas, Array, Chirality, Gas, array_of, chirality_named, gas_named, mask
+from .gases import GASES, Mask, States, read_only
 from .planes import Cells, Walls, block_ones
 from .plans import planned
-from .program import call
-from .reader import KEYS
+from .program import call, program_path
+from .reader import KEYS, Refused, read
 from .scenes import Scene, height_of, keys_of, naming, scene_bytes, summary, text_of
 
 Side: TypeAlias = int | None  # of a block; None is all
@@ -62,7 +64,7 @@ class Lattice(Value):
     cells: Cells
     walls: Walls
     gas: Gas
-    chirality: str
+    chirality: Chirality
     seed: int
     generation: int
 
@@ -70,8 +72,8 @@ class Lattice(Value):
         self,
         states: Any,
         solid: Any = None,
-        gas: str | Gas = "fhp1",
-        chirality: str = "seeded",
+        gas: AnyGas = "fhp1",
+        chirality: Chirality = "seeded",
         seed: int = 0,
         generation: int = 0,
     ):
@@ -94,12 +96,12 @@ class Lattice(Value):
         vars(self).update(zip(("cells", "walls", *self.PARTS[2:]), values))
 
     @property
-    def states(self) -> Array:
+    def states(self) -> States:
         """The states of the cells [y, x]."""
         return self.cells.states
 
     @property
-    def solid(self) -> Array:
+    def solid(self) -> Mask:
         """Whether the cells [y, x] are solid."""
         return self.walls.solid
 
@@ -110,7 +112,8 @@ class Lattice(Value):
 
     @classmethod
     def load(cls, scene: Scene) -> "Lattice":
-        """The lattice of a scene, or of an .npz file that `save` wrote.
+        """The lattice of a scene, or of an .npz file that `save` wrote. Without the program a scene
+        can only be a map, as `save` writes it.
 
         Parameters
         ----------
@@ -133,7 +136,13 @@ class Lattice(Value):
         """
         text = scene_bytes(scene)
         with naming(scene):
-            return forms.from_npz(cls, text) if is_npz(text) else _run(text, 0)
+            if is_npz(text):
+                return forms.from_npz(cls, text)
+            try:
+                program_path()
+            except Fault as missing:
+                return cls(**_map_of(text, missing))
+            return _run(text, 0)
 
     def replace(self, **changes: Any) -> "Lattice":
         """The same lattice with other values. A run of it continues with the random bits that come
@@ -387,7 +396,7 @@ def _states_of(values: Array, gas: Gas) -> Array:
 
 
 def read_cells(
-    text: str | bytes, gas: str | Gas, size: Any, chirality: str = "seeded", seed: int = 0
+    text: str | bytes, gas: AnyGas, size: AnySize, chirality: Chirality = "seeded", seed: int = 0
 ) -> Lattice:
     """The lattice of cells that `fhpgas run` printed.
 
@@ -457,6 +466,20 @@ def run(
         return _run(text, generations, stages, capacity)
 
 
+def _map_of(text: bytes, missing: Fault) -> dict[str, Any]:
+    """The parts of the lattice of a map. Any other scene wants the program, which is missing."""
+    try:
+        keys = read(text)
+    except Refused as refused:
+        raise Fault(f"{refused} (`explain` says where)") from None
+    if "cells" not in keys:
+        raise missing
+    pairs = np.frombuffer("".join(keys["cells"]).encode(), "<u2")
+    states, solid = parts_of(CODES[pairs.reshape(len(keys["cells"]), -1)])
+    kept = _kept(keys) | {"generation": keys.get("generation", 0)}
+    return {"states": states, "solid": solid} | kept
+
+
 def _run(
     text: bytes, generations: int, stages: int | None = None, capacity: int | None = None
 ) -> Lattice:
@@ -501,4 +524,4 @@ def coarse(
         block = fields.block_of(size, width, height, limits.MOST_BLOCK)
         words = *planned(of.height, generations, stages, capacity), "--block-width", block.columns
         table = call(text, "coarse", *words, "--block-height", block.rows)
-        return read_table(table, of.gas, block, size, first + generations)
+        return read_table(table, GASES[of.gas], block, size, first + generations)

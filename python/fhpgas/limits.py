@@ -1,6 +1,11 @@
 """The names and limits of scenes and plans (docs/FORMATS.md), and of what is shown. It needs the
 standard library only."""
 
+from typing import Literal, TypeAlias
+
+Quantity: TypeAlias = Literal[
+    "speed", "east", "north", "vorticity", "density", "filling", "pressure", "particles"
+]
 DRIVES = "rows", "directions"  # along which a force turns particles
 PLAIN, SIGNED, VELOCITY = "viridis", "RdBu_r", "cells per generation"
 FIELDS = {  # of blocks, with the unit and the colours

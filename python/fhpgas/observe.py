@@ -6,14 +6,14 @@ from typing import Any, NamedTuple
 import numpy as np
 
 from .fault import Fault
-from .gases import Array, Gas, array_of, floats_of, gas_named, mask
+from .gases import AnyGas, Array, array_of, floats_of, gas_named, mask
 from .lattice import Lattice
 
 FORCED = "upper", "lower", "solid"
 WINDOW = 5  # times of correlation up to which a correlation is summed
 
 
-def flux(gas: str | Gas, numbers: Any) -> Array:
+def flux(gas: AnyGas, numbers: Any) -> Array:
     """The flux of momentum of particles: the sum of c c times their number, over the directions.
 
     Parameters

@@ -17,11 +17,12 @@ from typing import TYPE_CHECKING, Any, NamedTuple, TypeAlias
 import numpy as np
 
 from .blocks import Blocks
-from .fault import Fault, integer, real
+from .fault import Fault, integer, library, real
 from .fields import positions, pair_checked
-from .files import Path, of_file
+from .files import Path, of_file, write_whole
+from .gases import Array
 from .lattice import Lattice
-from .limits import FFMPEG, FIELDS, PARTICLES, PILLOW, PLAIN, SIGNED
+from .limits import FFMPEG, FIELDS, PARTICLES, PILLOW, PLAIN, SIGNED, Quantity
 from .planes import block_ones, packed
 
 if TYPE_CHECKING:
@@ -90,16 +91,16 @@ def prepared(
         raise Fault("a picture has a state or more")
     if many[0].values is None:
         return None, many, {}
-    from matplotlib import colormaps
-
     unit, name = FIELDS[what] if isinstance(what, str) else ("", PLAIN)
     known = np.concatenate([shown.values.compressed() for shown in many])
     least, most = (float(known.min()), float(known.max())) if known.size else (0.0, 1.0)
     if name == SIGNED:
         least, most = min(least, -most), max(most, -least)
     limits = {} if "norm" in options else {"vmin": least, "vmax": most}
-    shades = colormaps.get_cmap(options.get("cmap", name)).with_extremes(bad=GREY)
-    options = {"interpolation": "nearest"} | limits | options | {"cmap": shades}
+    shades = library("matplotlib").colormaps.get_cmap(options.get("cmap", name))
+    options = (
+        {"interpolation": "nearest"} | limits | options | {"cmap": shades.with_extremes(bad=GREY)}
+    )
     return f"{what}\n({unit})" if unit else "", many, options
 
 
@@ -141,14 +142,15 @@ def draw(shown: Shown, ax: Axes, options: dict[str, Any]) -> Any:
 def particles(lattice: Lattice, ax: Axes) -> Axes:
     """Moving particles as arrows, particles at rest as dots, solid cells grey, and the walls as
     lines."""
-    from matplotlib.collections import EllipseCollection, PolyCollection
+    made = library("matplotlib.collections")
 
     gas, (X, Y) = lattice.gas, np.broadcast_arrays(*positions(lattice.size, lattice.gas))
     corners = 4 if gas.is_square else 6
     turns = np.exp(2j * np.pi * (np.arange(corners) + 0.5) / corners) / 2 / np.cos(np.pi / corners)
     outlines = np.stack([X.reshape(-1, 1) + turns.real, Y.reshape(-1, 1) + turns.imag], 2)
     inside = np.where(lattice.solid.ravel(), GREY, "white")
-    ax.add_collection(PolyCollection(outlines, facecolors=inside, edgecolors=PALE, linewidths=0.8))
+    style = {"facecolors": inside, "edgecolors": PALE, "linewidths": 0.8}
+    ax.add_collection(made.PolyCollection(outlines, **style))
     for i, (u, v) in enumerate(gas.velocities):
         here = lattice.states >> i & 1 > 0
         x, y = X[here], Y[here]
@@ -158,7 +160,7 @@ def particles(lattice: Lattice, ax: Axes) -> Axes:
         else:
             sizes, looks["offsets"] = np.full(here.sum(), 0.24), np.column_stack([x, y])
             looks["offset_transform"] = ax.transData
-            ax.add_collection(EllipseCollection(sizes, sizes, 0 * sizes, **looks))
+            ax.add_collection(made.EllipseCollection(sizes, sizes, 0 * sizes, **looks))
     top, right = lattice.size[1] * gas.row_distance, X.max() + 0.6
     ax.hlines((0, top), -0.6, right, "black", linewidth=2, clip_on=False)
     ax.set(aspect="equal", xlim=(-0.6, right), ylim=(0, top), xticks=[], yticks=[])
@@ -178,7 +180,7 @@ def bar(image: Any, label: str | None, ax: Axes) -> None:
 
 def plot(
     source: Source,
-    what: Any = None,
+    what: Quantity | Array | None = None,
     ax: Axes | None = None,
     *,
     block: tuple[int, int] = (8, 9),
@@ -226,9 +228,7 @@ def plot(
     (4, 8)
     """
     if ax is None:
-        from matplotlib import pyplot
-
-        ax = pyplot.gca()
+        ax = library("matplotlib.pyplot").gca()
     label, (shown,), options = prepared([source], what, block, smooth, options)
     image = draw(shown, ax, options)
     bar(image, label if colorbar else None, ax)
@@ -237,7 +237,7 @@ def plot(
 
 def strip(
     sources: Iterable[Source],
-    what: Any = None,
+    what: Quantity | Array | None = None,
     *,
     block: tuple[int, int] = (8, 9),
     smooth: float = 0.0,
@@ -266,8 +266,7 @@ def strip(
     >>> len(fhpgas.strip([start, start], "density").axes)
     3
     """
-    from matplotlib import pyplot
-
+    pyplot = library("matplotlib.pyplot")
     label, many, options = prepared(sources, what, block, smooth, options)
     n, aspect = len(many), aspect_of(many[0].source)
     divisors = (k for k in range(1, n + 1) if n % k == 0)
@@ -294,10 +293,9 @@ def aspect_of(source: Source) -> float:
 
 def axes_of(source: Source) -> Axes:
     """The Axes of a figure beside pyplot, which is as high as the lattice asks."""
-    from matplotlib.figure import Figure
-
     size = min(7, 8 / aspect_of(source) + 2.5), max(1.5, min(9, 5.4 * aspect_of(source) + 0.8))
-    return Figure(figsize=size, layout="constrained").add_subplot()
+    figure = library("matplotlib.figure").Figure(figsize=size, layout="constrained")
+    return figure.add_subplot()
 
 
 def png(source: Source) -> bytes:
@@ -312,7 +310,7 @@ def png(source: Source) -> bytes:
 def film(
     path: Path,
     sources: Iterable[Source],
-    what: Any = None,
+    what: Quantity | Array | None = None,
     *,
     block: tuple[int, int] = (8, 9),
     smooth: float = 0.0,
@@ -356,9 +354,7 @@ def film(
     with of_file(path):
         if suffix in PILLOW:
             return write_frames(path, redrawn(ax, many, options), fps, dpi)
-        from matplotlib.animation import FFMpegWriter
-
-        writer = FFMpegWriter(fps=fps)
+        writer = library("matplotlib.animation").FFMpegWriter(fps=fps)
         with writer.saving(ax.figure, os.fspath(path), dpi):
             for _ in redrawn(ax, many, options):
                 writer.grab_frame()
@@ -388,17 +384,17 @@ def redrawn(ax: Axes, many: list[Shown], options: dict[str, Any]) -> Iterator[Fi
 
 def write_frames(path: Any, figures: Iterable[Figure], fps: float, dpi: int) -> None:
     """Writes a film by Pillow."""
-    from matplotlib.backends.backend_agg import FigureCanvasAgg
-    from PIL import Image
-
-    frames, palette = list[Any](), None
+    canvas_of = library("matplotlib.backends.backend_agg").FigureCanvasAgg
+    image_of, frames, palette = library("PIL.Image").fromarray, list[Any](), None
     for figure in figures:
         figure.set_dpi(dpi)
-        (canvas := FigureCanvasAgg(figure)).draw()
-        frame = Image.fromarray(np.asarray(canvas.buffer_rgba())).convert("RGB")
+        (canvas := canvas_of(figure)).draw()
+        frame = image_of(np.asarray(canvas.buffer_rgba())).convert("RGB")
         if str(path).endswith(".gif"):  # all have the 256 colours of the first, which has the bar
             palette = palette or frame.quantize()
             frame = frame.quantize(palette=palette, dither=0)
         frames.append(frame)
     more = {"append_images": frames[1:], "duration": int(1000 / fps), "loop": 0}
-    frames[0].save(path, save_all=True, **more)
+    film, kind = io.BytesIO(), pathlib.Path(path).suffix[1:].replace("apng", "png")
+    frames[0].save(film, kind, save_all=True, **more)
+    write_whole(path, film.getvalue())

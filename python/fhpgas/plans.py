@@ -16,7 +16,8 @@ def plan(
     cores : int, optional
         By default those that this process may use, in a run of `side_by_side` its share of them.
     stages : int, optional
-        By default sixteen per core, at most one per 16 rows or per generation.
+        By default those of passes of equal length, as few as sixteen per core, one per 16 rows and
+        one per generation allow.
 
     Returns
     -------
@@ -26,10 +27,12 @@ def plan(
     Examples
     --------
     >>> fhpgas.plan(1024, 1000, cores=4)
-    (64, 128, 4)
+    (63, 128, 4)
     """
     cores = cores or cores_of_call()
-    stages = stages or max(1, min(16 * cores, rows // 16, generations, MOST_STAGES))
+    most = max(1, min(16 * cores, rows // 16, generations, MOST_STAGES))
+    even = -(-generations // max(1, -(-generations // most)))  # both divisions round up
+    stages = stages or max(even, min(cores, most))
     return stages, CAPACITY, min(cores, stages)
 
 

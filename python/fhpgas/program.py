@@ -1,13 +1,17 @@
 """The program that runs scenes: where it is found, and calls of it. It needs the standard library
 only."""
 import contextlib
+import ctypes
 import functools
+import importlib
 import os
 import pathlib
 import platform
 import shutil
 import subprocess
+import sys
 import threading
+from collections.abc import Iterator
 from typing import Any
 
 from .fault import Fault
@@ -16,6 +20,8 @@ from .limits import MOST_BYTES
 
 OWN = pathlib.Path(__file__).resolve().with_name("fhpgas")  # in a wheel
 ABOVE = OWN.parents[2]  # the repository, or the unpacked archive
+LAUNCHER = ABOVE / "tools/program"  # of a repository
+COMMAND = b"from fhpgas.program import"  # in the script that pip makes of `main`
 SYSTEM = f"{platform.system()} on {platform.machine()}"
 TIED = "setpriv", "--pdeathsig", "KILL"  # of util-linux
 _starting = threading.Lock()  # for the first call of a program, which may build it
@@ -25,26 +31,86 @@ _starting = threading.Lock()  # for the first call of a program, which may build
 def program_path() -> pathlib.Path:
     """The path of the program: the one that the environment variable FHPGAS names, the package's
     own, the one in the repository or archive which contains this package, or the first on the PATH.
-    The launcher of a repository builds the program. It is started once, and afterwards what it
-    built."""
-    launcher = ABOVE / "fhpgas"
-    near = next((str(path) for path in (OWN, launcher) if path.is_file()), None)
-    found = os.environ.get("FHPGAS") or near or shutil.which("fhpgas")
+    The launcher of a repository builds it first."""
+    found = os.environ.get("FHPGAS") or next(_programs(), None)
     if not found:
         why = f"this package has none for {SYSTEM} (its wheel for Linux on x86-64 has one)"
+        if next(OWN.parent.glob("libfhpgas-*"), None):
+            here = " ".join(platform.libc_ver())
+            why = (
+                f"this package has the engine alone, for C libraries before the program's ({here})"
+            )
         why += ", nor do FHPGAS or the PATH name one"
         raise Fault(f"the program fhpgas is not found, which reads scenes: {why}")
     path = pathlib.Path(found).absolute()
     if not path.is_file():
         raise Fault(f"{path} is {'no file' if path.exists() else 'missing'}")
+    if "fhpgas" not in _version(path):
+        raise Fault(f"{path} does not start, or is another program")
+    return path
+
+
+def _programs() -> Iterator[str]:
+    """Where the program may be, the best first. The PATH has perhaps the script of `main`."""
+    if OWN.is_file():
+        yield str(OWN)
+    elif LAUNCHER.is_file():
+        done = subprocess.run([LAUNCHER], stdout=subprocess.PIPE, stdin=subprocess.DEVNULL)
+        if done.returncode:
+            raise Fault(f"{LAUNCHER} found no program, and built none: the lines above say why")
+        yield os.fsdecode(done.stdout.rstrip(b"\n"))
+    elif (ABOVE / "fhpgas").is_file():
+        yield str(ABOVE / "fhpgas")
+    for folder in os.get_exec_path():
+        found = shutil.which("fhpgas", path=folder)
+        if found and COMMAND not in pathlib.Path(found).read_bytes()[:1000]:
+            yield found
+
+
+@functools.cache
+def _version(path: pathlib.Path) -> str:
+    """What a program says that it is, nothing if it fails."""
     try:
         done = subprocess.run([path, "--version"], stdout=subprocess.PIPE, stdin=subprocess.DEVNULL)
     except OSError as fault:
         raise Fault(f"{path}: {fault.strerror}") from None
-    if done.returncode or b"fhpgas" not in done.stdout:
-        raise Fault(f"{path} does not start, or is another program")
-    built = ABOVE / "crates/fhpgas/out/fhpgas"
-    return built if path == launcher and built.exists() else path
+    return "" if done.returncode else done.stdout.decode(errors="replace")
+
+
+def build() -> dict[str, str]:
+    """What the engine and the program are, and of which commit, if the build knows it.
+
+    Returns
+    -------
+    dict of str
+        By `engine` and `program`. The text ends with "not proved" if plain Rust built it.
+
+    Examples
+    --------
+    >>> sorted(fhpgas.build())
+    ['engine', 'program']
+    """
+    proved = "made by the kit, compare with RECORD"
+    engine, program = "none, or no numpy to call it", "none"
+    with contextlib.suppress(ModuleNotFoundError):
+        if found := importlib.import_module("fhpgas.engine").library():
+            says: Any = getattr(found, "fhpgas_not_proved", lambda: proved.encode())
+            says.restype = ctypes.c_char_p
+            engine = says().decode()
+    with contextlib.suppress(Fault):
+        told = _version(program_path()).partition("(")[2].rstrip(")\n")
+        program = told if told.endswith("not proved") else proved
+    return {"engine": engine, "program": program}
+
+
+def main() -> None:
+    """The command `fhpgas` of an installed package."""
+    try:
+        path = str(program_path())
+    except Fault as fault:
+        print(f"fhpgas: {fault}", file=sys.stderr)
+        sys.exit(70)
+    os.execv(path, [path, *sys.argv[1:]])
 
 
 @functools.cache

@@ -1,4 +1,5 @@
 """Bars that count the parts of what goes on."""
+import warnings
 from collections.abc import Iterable
 from typing import Any
 
@@ -7,6 +8,9 @@ def counted(values: Iterable[Any], total: int, unit: str, progress: bool) -> Ite
     """The values, if progress is asked for with a bar of tqdm."""
     if not progress:
         return values
-    from tqdm.auto import tqdm
-
+    try:
+        from tqdm.auto import tqdm
+    except ModuleNotFoundError:
+        warnings.warn("no bar counts, because tqdm is missing: pip install tqdm", stacklevel=2)
+        return values
     return tqdm(values, total=total, unit=unit, leave=False)

@@ -6,7 +6,7 @@ import numpy as np
 
 from . import fields
 from .fault import Fault, seed_of
-from .gases import Array, Gas, gas_named, mask
+from .gases import AnyGas, Array, Chirality, gas_named, mask
 from .lattice import Lattice
 from .theory import sound_speed
 
@@ -16,10 +16,10 @@ def draw_gas(
     east: fields.Field = 0.0,
     north: fields.Field = 0.0,
     *,
-    size: Any = None,
+    size: "fields.AnySize | None" = None,
     solid: Any = None,
-    gas: str | Gas = "fhp1",
-    chirality: str = "seeded",
+    gas: AnyGas = "fhp1",
+    chirality: Chirality = "seeded",
     seed: int = 0,
 ) -> Lattice:
     """A gas that is drawn at random from the equilibrium of Fermi and Dirac.

@@ -12,14 +12,14 @@ from typing import Any
 
 import numpy as np
 
-from .fault import Fault, integer, real
-from .fields import CACHED, lots_of, size_of
-from .gases import Array, Gas, array_of, floats_of, gas_named
+from .fault import Fault, integer, library, real
+from .fields import CACHED, AnySize, lots_of, size_of
+from .gases import AnyGas, Array, Mask, array_of, floats_of, gas_named
 
 FAR = 1e6  # cells, of a corner of a polygon
 
 
-def disc(size: Any, column: int, row: int, radius: float, gas: str | Gas = "fhp1") -> Array:
+def disc(size: AnySize, column: int, row: int, radius: float, gas: AnyGas = "fhp1") -> Mask:
     """The cells whose middles are at most `radius` from the middle of a cell.
 
     Parameters
@@ -53,7 +53,7 @@ def disc(size: Any, column: int, row: int, radius: float, gas: str | Gas = "fhp1
     return solid
 
 
-def _stencil(size: tuple[int, int], parity: int, radius: float, gas: str | Gas) -> Array:
+def _stencil(size: tuple[int, int], parity: int, radius: float, gas: AnyGas) -> Array:
     """The rows and columns [2, cells] from the middle of a disc to its cells, in even or odd rows.
     Four times the square of a distance is an integer on both lattices, so nothing is rounded."""
     (columns, rows), named = size, gas_named(gas)
@@ -65,7 +65,7 @@ def _stencil(size: tuple[int, int], parity: int, radius: float, gas: str | Gas) 
     return np.stack([y[down], x[right]])
 
 
-def polygon(size: Any, corners: Iterable[Sequence[float]], gas: str | Gas = "fhp1") -> Array:
+def polygon(size: AnySize, corners: Iterable[Sequence[float]], gas: AnyGas = "fhp1") -> Mask:
     """The cells whose middles are inside a polygon.
 
     A cell on an upper or left edge belongs to it, on a lower or right edge not. Of a polygon that
@@ -113,7 +113,7 @@ def polygon(size: Any, corners: Iterable[Sequence[float]], gas: str | Gas = "fhp
     return np.cumsum(steps, axis=1, out=steps).reshape(rows, 2, columns).any(1)
 
 
-def nozzle(size: Any, throat: int, length: int) -> Array:
+def nozzle(size: AnySize, throat: int, length: int) -> Mask:
     """A channel that narrows and widens again.
 
     Parameters
@@ -143,7 +143,7 @@ def nozzle(size: Any, throat: int, length: int) -> Array:
     return (y < top) | (y >= top + opening)
 
 
-def porous(size: Any, share: float, radius: float, seed: int = 0, gas: str | Gas = "fhp1") -> Array:
+def porous(size: AnySize, share: float, radius: float, seed: int = 0, gas: AnyGas = "fhp1") -> Mask:
     """Discs at random places, until a share of all cells is solid.
 
     They are drawn from the raw bits of numpy's PCG64, in a stream of their own (`fields.lots_of`),
@@ -193,13 +193,13 @@ def porous(size: Any, share: float, radius: float, seed: int = 0, gas: str | Gas
 
 
 def bitmap(
-    size: Any,
+    size: AnySize,
     picture: Any,
     pixel: float = 1.0,
     column: int = 0,
     row: int = 0,
-    gas: str | Gas = "fhp1",
-) -> Array:
+    gas: AnyGas = "fhp1",
+) -> Mask:
     """The dark pixels of a picture.
 
     Parameters
@@ -250,14 +250,13 @@ def _dark(picture: Any) -> Array:
             what = "the path of a file or an array [y, x]"
             raise Fault(f"a picture is {what}, not of the shape {dark.shape}")
         return dark.astype(bool)
-    from PIL import Image
-
+    images = library("PIL.Image")
     try:
-        with Image.open(picture) as image:
+        with images.open(picture) as image:
             is_deep = image.mode.startswith("I")
             grey = image.point(lambda shade: shade / 256).convert("L") if is_deep else image
             shades = np.asarray(grey.convert("RGBA")).astype(int)
-    except (OSError, ValueError, SyntaxError, Image.DecompressionBombError) as fault:
+    except (OSError, ValueError, SyntaxError, images.DecompressionBombError) as fault:
         raise Fault(f"{picture}: {getattr(fault, 'strerror', None) or fault}") from None
     return (shades[..., :3].sum(-1) * 2 < 3 * 255) & (shades[..., 3] > 127)
 

@@ -17,10 +17,10 @@ from .boltzmann import collision_matrix, pair_closure
 from .fault import Fault, integer, real
 from .fields import equilibrium
 from .gas_table import GASES
-from .gases import Array, Gas, array_of, chirality_named, gas_named
+from .gases import AnyGas, Array, Chirality, Gas, array_of, chirality_named, gas_named
 
 
-def sound_speed(gas: str | Gas) -> float:
+def sound_speed(gas: AnyGas) -> float:
     """The speed of sound, the root of the mean of c_x^2 over the directions: 1/sqrt(2) in `fhp1`.
 
     Examples
@@ -31,7 +31,7 @@ def sound_speed(gas: str | Gas) -> float:
     return float(np.sqrt((gas_named(gas).velocities[:, 0] ** 2).mean()))
 
 
-def galilean_factor(gas: str | Gas, filling: Any, wind: float = 0.0) -> Any:
+def galilean_factor(gas: AnyGas, filling: Any, wind: float = 0.0) -> Any:
     """The factor g by which u.grad u is multiplied in the momentum equation.
 
     It is (b/12) (1 - 2d) / (1 - d).
@@ -63,7 +63,7 @@ def galilean_factor(gas: str | Gas, filling: Any, wind: float = 0.0) -> Any:
     return flux / (named.directions * d * wind * across)
 
 
-def isotropic(gas: str | Gas) -> Gas:
+def isotropic(gas: AnyGas) -> Gas:
     """A gas whose flows follow the equations of a fluid. `hpp` raises a Fault."""
     named = gas_named(gas)
     if named.is_square:
@@ -80,7 +80,7 @@ def checked(filling: Any) -> Array:
     return d.astype(float)
 
 
-def relaxed(gas: str | Gas, filling: Any, chirality: str, mode: Array) -> Any:
+def relaxed(gas: AnyGas, filling: Any, chirality: Chirality, mode: Array) -> Any:
     """The share of a mode [b] that collisions undo in a generation, in the Boltzmann equation
     linearized about equal filling: the eigenvalue of the collision operator, of which the mode must
     be an eigenvector."""
@@ -95,13 +95,13 @@ def _turning(gas: Gas, times: int) -> Array:
     return np.where(i < 6, np.exp(1j * np.pi / 3 * times * i), 0)
 
 
-def _shear(gas: str | Gas, filling: Any, chirality: str) -> Any:
+def _shear(gas: AnyGas, filling: Any, chirality: Chirality) -> Any:
     named = isotropic(gas)
     share = relaxed(named, filling, chirality, _turning(named, 2))
     return (1 / share - 1 / 2) / 4  # c^2 / (dimensions + 2), where c = 1
 
 
-def viscosity(gas: str | Gas, filling: Any, chirality: str = "seeded") -> Any:
+def viscosity(gas: AnyGas, filling: Any, chirality: Chirality = "seeded") -> Any:
     """The kinematic shear viscosity in the Boltzmann approximation.
 
     FHP-I (`fhp1`, seeded): 1 / (12 d (1-d)^3) - 1/8, with one chirality 1 / (16 d (1-d)^3) - 1/8.
@@ -143,7 +143,7 @@ CORRELATED = {
 }
 
 
-def is_correlated(gas: str | Gas, filling: Any, chirality: str = "seeded") -> Any:
+def is_correlated(gas: AnyGas, filling: Any, chirality: Chirality = "seeded") -> Any:
     """Whether a measured viscosity exceeds Boltzmann's by more than a tenth, by a table of
     measurements.
 
@@ -167,7 +167,7 @@ def is_correlated(gas: str | Gas, filling: Any, chirality: str = "seeded") -> An
     return (low < checked(filling)) & (checked(filling) < high)
 
 
-def _warn(gas: str | Gas, filling: Any, chirality: str) -> None:
+def _warn(gas: AnyGas, filling: Any, chirality: Chirality) -> None:
     if np.any(is_correlated(gas, filling, chirality)):
         what = f"measured viscosities of {gas_named(gas)} ({chirality}) exceed Boltzmann's by more"
         how = "than a tenth at this filling: theory.pair_viscosity calculates by how much"
@@ -175,14 +175,15 @@ def _warn(gas: str | Gas, filling: Any, chirality: str) -> None:
 
 
 def pair_viscosity(
-    gas: str | Gas,
+    gas: AnyGas,
     filling: float,
     generations: int,
-    chirality: str = "seeded",
+    chirality: Chirality = "seeded",
     triples: float = 1.0,
     size: int = 128,
 ) -> Array:
-    """The kinematic shear viscosity with the correlations of pairs, without a free number.
+    """The kinematic shear viscosity with the correlations of pairs, without a free number: ring
+    kinetic theory (see T. R. Kirkpatrick, M. H. Ernst, Phys. Rev. A 44 (1991) 8051).
 
     A uniform stress decays as `boltzmann.pair_closure` says, which explains `chirality`, `triples`
     and `size`. It takes the time of `generations`, and `size` squared times that.
@@ -229,7 +230,7 @@ def running_viscosity(stress: Any) -> Array:
     return np.asarray((np.cumsum(found / found[0], 0) - 1 / 2) / 4)
 
 
-def odd_viscosity(gas: str | Gas, filling: Any, chirality: str) -> Any:
+def odd_viscosity(gas: AnyGas, filling: Any, chirality: Chirality) -> Any:
     """The kinematic odd viscosity, 0 if `chirality` is "seeded".
 
     Its sign is that of the stress -p - density odd_viscosity (du/dy + dv/dx) across a row, yy, and
@@ -255,7 +256,7 @@ def odd_viscosity(gas: str | Gas, filling: Any, chirality: str) -> Any:
     return _shear(gas, filling, chirality).imag
 
 
-def bulk_viscosity(gas: str | Gas, filling: Any) -> Any:
+def bulk_viscosity(gas: AnyGas, filling: Any) -> Any:
     """The kinematic bulk viscosity: 0 in `fhp1`, and 1 / (98 d (1-d)^4) - 1/28 in `fhp-rest`.
 
     Examples
@@ -267,7 +268,7 @@ def bulk_viscosity(gas: str | Gas, filling: Any) -> Any:
     return GASES[isotropic(gas).name].bulk_viscosity(d)
 
 
-def slip(gas: str | Gas, filling: Any, chirality: str = "seeded", along: str = "rows") -> Any:
+def slip(gas: AnyGas, filling: Any, chirality: Chirality = "seeded", along: str = "rows") -> Any:
     """K, by which a parabola ends outside the walls, in squares of the distance of rows.
 
     Between walls along the rows, H rows apart, a slow steady flow is the parabola that is zero at
@@ -301,7 +302,7 @@ def slip(gas: str | Gas, filling: Any, chirality: str = "seeded", along: str = "
     return 8 / 3 * _shear(named, filling, chirality).real * (staggered - 1) - 1 / 4
 
 
-def noise(gas: str | Gas, filling: Any, cells: Any) -> Any:
+def noise(gas: AnyGas, filling: Any, cells: Any) -> Any:
     """The standard deviation of a mean velocity over some cells at equilibrium.
 
     It is sqrt((1 - d) c^2 / (b d cells)), with c the speed of sound.
@@ -352,7 +353,7 @@ class Numbers(NamedTuple):
 
 
 def numbers(
-    gas: str | Gas, filling: float, speed: float, length: float, chirality: str = "seeded"
+    gas: AnyGas, filling: float, speed: float, length: float, chirality: Chirality = "seeded"
 ) -> Numbers:
     """The numbers of a flow past something.
 

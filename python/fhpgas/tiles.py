@@ -33,9 +33,9 @@ from .blocks import Blocks
 from .cells import SOLID, codes_of, parts_of
 from .fault import Fault, integer, seed_of
 from .files import Path
-from .gases import Array, Gas, chirality_named, gas_named, mask
+from .gases import AnyGas, Array, Chirality, Gas, chirality_named, gas_named, mask
 from .lattice import Lattice
-from .limits import MOST_SIDE
+from .limits import MOST_SIDE, Quantity
 from .planes import unpacked
 
 MOST_TASKS, OF_A_TILE = 5000, 16  # that wait in the scheduler, and those of a tile and an exchange
@@ -46,7 +46,7 @@ class Rules(NamedTuple):
     """What a lattice has beside its cells and their generation."""
 
     gas: Gas
-    chirality: str
+    chirality: Chirality
     seed: int
 
     def lattice(self, cells: Array, generation: int = 0) -> Lattice:
@@ -54,7 +54,7 @@ class Rules(NamedTuple):
         return Lattice(states, solid, *self, generation)
 
 
-def _rules(gas: str | Gas, chirality: str, seed: int) -> Rules:
+def _rules(gas: AnyGas, chirality: Chirality, seed: int) -> Rules:
     return Rules(gas_named(gas), chirality_named(chirality), seed_of(seed))
 
 
@@ -213,7 +213,11 @@ class Tiles:
         return Blocks(fluid, particles, px, py, gas, (columns, rows), self.size, self.generation)
 
     def plot(
-        self, what: str = "speed", ax: Any = None, block: tuple[int, int] = (64, 64), **options: Any
+        self,
+        what: Quantity = "speed",
+        ax: Any = None,
+        block: tuple[int, int] = (64, 64),
+        **options: Any,
     ) -> Any:
         """Shows a field of the blocks on Axes of matplotlib: see `fhpgas.plot`."""
         return self.blocks(*block).plot(what, ax, **options)
@@ -250,8 +254,8 @@ def draw_gas(
     size: fields.Size,
     tile: tuple[int, int],
     solid: Any = None,
-    gas: str | Gas = "fhp1",
-    chirality: str = "seeded",
+    gas: AnyGas = "fhp1",
+    chirality: Chirality = "seeded",
     seed: int = 0,
 ) -> Tiles:
     """The tiles of `fhpgas.draw_gas` of the same arguments, drawn by the workers when they are

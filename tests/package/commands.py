@@ -262,7 +262,9 @@ class Commands(Case):
         for words in COMMANDS:
             with self.subTest(words=words):
                 self.assertIn("usage: ", self.printed(words, "--help"))
-        self.assertEqual(self.printed("--version"), f"fhpgas-tools {fhpgas.__version__}\n")
+        told = {"fhpgas-tools": fhpgas.__version__} | fhpgas.build()
+        wanted = "".join(f"{name} {what}\n" for name, what in told.items())
+        self.assertEqual(self.printed("--version"), wanted)
         (self.room / "a.gif").unlink(missing_ok=True)
         refused = [(2, f"{words} --colour", "fhpgas-tools: ") for words in COMMANDS]
         for status, lines in REFUSED.items():

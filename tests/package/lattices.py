@@ -7,6 +7,7 @@ import functools
 import itertools
 import math
 import os
+import pathlib
 import pickle
 import re
 import subprocess
@@ -39,7 +40,7 @@ film("a.gif", start)                                a film or a strip has severa
 film("no/a.gif", [start])                           no/a.gif: No such file or directory
 mean([start.blocks(), start.blocks()])              blocks are added
 start.plot("speed", 1, block=8)                     a block is two integers, columns and rows, not 8
-Lattice([[0]], gas="fhp2")                          a gas is one of fhp1, hpp, fhp-rest, not 'fhp2'
+Lattice([[0]], gas="FHP-II")                        a gas is one of fhp1, hpp, fhp-rest, not 'FHP-II': fhp-rest is FHP-II
 Lattice([[0]], chirality="up")                      a chirality is one of seeded, left, right, not 'up'
 Lattice([[0]], seed=-1)                             a seed is an integer from 0 to 9223372036854775807, not -1
 start.replace(seed=1.0)                             not 1.0
@@ -218,6 +219,43 @@ class Lattices(Package):
         with unittest.mock.patch.object(fhpgas.lattice, "call", return_value=printed):
             self.fault("the key `later`", fhpgas.run, AREA + "later = 1\n", 0)
             self.fault("the key `later`", fhpgas.Lattice.load, AREA + "later = 1\n")
+
+    def test_maps_are_read_without_the_program_as_the_program_reads_them(self):
+        start = wind((70, 40), "fhp-rest", "right").run(3)
+        start.save(self.room / "a.toml")
+        start.save(self.room / "a.npz")
+        texts = 'gas = "hpp"\ncells = ["01##"]\n', "\ufeff" + 'seed=3\ngas="fhp1"\ncells=["..3f"]\n'
+        scenes = self.room / "a.toml", self.room / "a.npz", *texts
+        wanted = [fhpgas.Lattice.load(scene) for scene in scenes]
+        with unittest.mock.patch.object(
+            fhpgas.lattice, "program_path", side_effect=fhpgas.Fault("no program")
+        ):
+            self.assertEqual([fhpgas.Lattice.load(scene) for scene in scenes], wanted)
+            self.fault("no program", fhpgas.Lattice.load, AREA)
+            self.fault(
+                "scene: row 0 cell 1 is not a cell",
+                fhpgas.Lattice.load,
+                texts[0].replace("##", "1f"),
+            )
+        self.assertEqual((wanted[0], wanted[1]), (start, start))
+
+    def test_what_is_built_says_what_it_is(self):
+        told = subprocess.check_output([PROGRAM, "--version"], text=True)
+        text, found = re.search(r"\((.*)\)", told)[1], fhpgas.build()
+        wanted = text if text.endswith("not proved") else "made by the kit, compare with RECORD"
+        self.assertEqual(found["program"], wanted)
+        is_plain = b"fhpgas_not_proved" in pathlib.Path(engine.library()._name).read_bytes()
+        self.assertEqual(found["engine"].endswith("not proved"), is_plain)
+
+    def test_a_missing_library_is_a_fault_that_names_it(self):
+        start = fhpgas.Lattice.load(AREA)
+        with unittest.mock.patch.dict(
+            sys.modules, {"scipy": None, "scipy.ndimage": None, "xarray": None, "tqdm.auto": None}
+        ):
+            self.fault("lacks the package scipy: pip install scipy", start.blocks().smooth)
+            self.fault("lacks the package xarray", start.to_xarray)
+            with self.assertWarnsRegex(UserWarning, "tqdm is missing"):
+                self.assertEqual(start.run(3, progress=True), start.run(3))
 
     def test_a_scene_is_passed_as_its_text_or_its_path(self):
         (self.room / "d=0.3.toml").write_text(AREA)

@@ -105,8 +105,9 @@ class Processes(Package):
         self.assertEqual(ran(), "{'numpy'}\n")
 
     def test_a_plan_is_chosen_from_the_cores_of_the_process(self):
-        plans = "1024 1000 1: 16 1, 1024 1000 4: 64 4, 1024 1000 8: 64 8, 1024 1000 64: 64 64"
-        plans += ", 256 100 4: 16 4, 24 100 4: 1 1, 9 1 4: 1 1, 1024 3 4: 3 3"
+        plans = "1024 1000 1: 16 1, 1024 1000 4: 63 4, 1024 1000 8: 63 8, 1024 1000 64: 64 64"
+        plans += ", 1024 16 4: 16 4, 1024 40 4: 40 4, 1024 65 4: 33 4, 1024 100 4: 50 4"
+        plans += ", 256 100 4: 15 4, 24 100 4: 1 1, 9 1 4: 1 1, 1024 3 4: 3 3, 1024 0 4: 1 1"
         for known, _, plan in (text.partition(": ") for text in plans.split(", ")):
             stages, threads = map(int, plan.split())
             self.assertEqual(fhpgas.plan(*map(int, known.split())), (stages, 128, threads), known)

@@ -1,12 +1,15 @@
 #!/usr/bin/env python3
 """Builds the package's wheels, or takes the one that is named, and the source distribution, installs each into an empty folder outside the
 repository, and runs all commands, and the examples of the docstrings, from there: the wheel for Linux alone, the one without program and
-engine as on other systems. Ends with the counts."""
+engine as on other systems. A clone that has a plain build alone is installed as it is, and of two wheels pip must take the proved one. Ends
+with the counts."""
 
 import ast
 import os
 import pathlib
+import platform
 import re
+import shutil
 import subprocess
 import sys
 import tempfile
@@ -29,6 +32,7 @@ TABLE = """\
 # or engine.
 ALONE = """
 --version | fhpgas-tools
+resume cells.toml cells.txt | generation = 1
 draw discs --width 64 --height 36 --disc 20 16 5 --filling 0.2 | width = 64
 numbers --filling 0.2 --speed 0.3 --length 80 | mach
 explain wrong.toml | unknown key
@@ -44,7 +48,6 @@ over-time scene.toml 4 2 | generation 4
 over-seeds scene.toml --seeds 2 --generations 1 | u_error
 long-run scene.toml 4 2 kept.toml | kept.toml: version
 how-long scene.toml 9 --seconds 1 | MLUPS
-resume cells.toml cells.txt | generation = 1
 """
 ALONE, BUILT = ([line.split(" | ") for line in text[1:-1].split("\n")] for text in (ALONE, BUILT))
 EXAMPLES = """
@@ -56,6 +59,8 @@ print(sum(each.attempted for each in tried) > 90, sum(each.failed for each in tr
 """
 OLD = "import sys; sys.version_info = (3, 10, 12); sys.argv[0] = {!r}; import fhpgas"
 NOTICES = "LICENSE-MIT", "LICENSE-APACHE", "NOTICES.md"
+SOURCES = "python page docs/NOTICES.md LICENSE-MIT LICENSE-APACHE CITATION.cff MANIFEST.in pyproject.toml setup.py".split()
+PLAIN = needs.ROOT / "out/checked"
 
 
 def pip(*words):
@@ -117,6 +122,9 @@ def tried(room, is_built):
     named = {command.split()[0] for command, _ in ALONE + BUILT}
     commands = re.findall(r"^    ([a-z]+(?:-[a-z]+)*) +\S", out, re.M)
     check("all commands are tried", commands and {*commands} <= named, commands)
+    status, out, err = room.ran(["fhpgas", "--version"])
+    found = out.startswith("fhpgas ") if is_built else status == 70 and err.count("\n") == 1
+    check("the command fhpgas", found, out + err)
     if is_built:
         found = room.ran([sys.executable, "-c", EXAMPLES])
         check("the examples run", found[:2] == (0, "True 0\n"), found)
@@ -126,25 +134,67 @@ def tried(room, is_built):
     ast.parse((room.site / "fhpgas/__init__.py").read_text(), feature_version=(3, 7))
 
 
-def declared(wheel, is_built):
+def declared(wheel, is_built, has_notices=True):
     """What a wheel says of itself, and the notices that it has."""
     with zipfile.ZipFile(wheel) as found:
         names = found.namelist()
         info = names[-1].split("/")[0]
         told = found.read(f"{info}/WHEEL").decode()
         about = found.read(f"{info}/METADATA").decode()
-        texts = b"".join(map(found.read, names))
-    versions = [(2, 17), *re.findall(rb"GLIBC_(\d)\.(\d+)", texts)]
+        files = [found.read(name) for name in names]
+    binaries = b"".join(each for each in files if each.startswith(b"\x7fELF"))
+    versions = [(2, 17), *re.findall(rb"GLIBC_(\d)\.(\d+)", binaries)]
     tag = "manylinux_{}_{}_x86_64".format(*max(tuple(map(int, pair)) for pair in versions))
     tag = tag if is_built else "any"
     check("the name has the system", wheel.name.endswith(f"-py3-none-{tag}.whl"), wheel.name)
     is_pure = "Root-Is-Purelib: true" in told
     check("so has the wheel", f"Tag: py3-none-{tag}\n" in told and is_pure != is_built, told)
     check("it has licences", {f"{info}/{name}" for name in NOTICES} <= {*names}, names)
-    check("and what the page shows", "\nClassifier: " in about and "\n# fhpgas" in about, about)
+    page = "\nClassifier: ", "\nDescription-Content-Type: text/x-rst", "\n    import fhpgas"
+    check("and what the page shows", all(text in about for text in page), about)
+    check(
+        "which claims no proof",
+        "is proved" not in about and "roved." not in about.replace("not proved.", ""),
+        about,
+    )
+    kind = re.search(r"-(\d\w+)-py3-", wheel.name)
+    wanted = ("0plain" if b"plain Rust, " in binaries else "1proved") if is_built else None
+    check("the name says what it is", (kind and kind[1]) == wanted, wheel.name)
     parts = [name for name in names if name.startswith("fhpgas/licences/")]
-    check("and the notices of the parts", bool(parts) == is_built, names)
+    check("and the notices of the parts", bool(parts) == (is_built and has_notices), names)
     check("types are marked", "fhpgas/py.typed" in names)
+
+
+def plain_clone(top):
+    """Installs a clone in which plain Rust built program and engine, as `pip install .` does, and tries what it has."""
+    clone = top / "clone"
+    for name in SOURCES:
+        (clone / name).parent.mkdir(parents=True, exist_ok=True)
+        path, built = needs.ROOT / name, shutil.ignore_patterns(
+            "fhpgas-*", "libfhpgas-*", "engine.js", "*.egg-info", "__pycache__"
+        )
+        shutil.copytree(path, clone / name, ignore=built) if path.is_dir() else shutil.copy(
+            path, clone / name
+        )
+    (clone / "out/plain").mkdir(parents=True)
+    shutil.copy(PLAIN / "fhpgas", clone / "out/plain")
+    shutil.copy(PLAIN / "libfhpgas.so", clone / f"python/fhpgas/libfhpgas-{platform.machine()}.so")
+    shutil.copy(needs.ROOT / "fhpgas", clone)
+    (top / "from_clone").mkdir()
+    room = Room(top / "from_clone", clone)
+    for command, wanted in BUILT[:1] + [["--version", "program plain Rust, checked, not proved"]]:
+        room.works(command, wanted)
+    status, out, err = room.ran(["sh", "-c", "fhpgas run --generations 0 < cells.toml"])
+    check("its program runs", (status, out.split("\n")[1]) == (0, "..01...."), out + err)
+    pip("wheel", "--no-deps", "--no-build-isolation", "-w", top / "plain", clone)
+    (wheel,) = (top / "plain").glob("*.whl")
+    declared(wheel, True, has_notices=False)
+    shutil.copy(wheel, top / "plain" / wheel.name.replace("0plain", "1proved"))
+    pip("download", "--no-deps", "--find-links", top / "plain", "--dest", top / "taken", "fhpgas")
+    taken = [path.name for path in (top / "taken").iterdir()]
+    check(
+        "of two wheels pip takes the proved one", len(taken) == 1 and "1proved" in taken[0], taken
+    )
 
 
 def main():
@@ -162,12 +212,21 @@ def main():
         with zipfile.ZipFile(wheel) as one, zipfile.ZipFile(top / "source" / wheel.name) as other:
             check("the source has all", {*one.namelist()} == {*other.namelist()}, other.namelist())
         tried(Room(top / "source", source), False)
+        if (PLAIN / "fhpgas").exists() and not is_named:
+            plain_clone(top)
         if has_engine:
             wheel = pathlib.Path(sys.argv[-1])
             if not is_named:
                 subprocess.run([needs.ROOT / "tools/built.sh", top / "made", PROGRAM], check=True)
                 subprocess.run([script, top / "built", top / "made"], check=True)
-                (wheel,) = (top / "built").glob("*.whl")
+                wheel, *alone = sorted(
+                    (top / "built").glob("*.whl"), key=lambda it: -it.stat().st_size
+                )
+                check(
+                    "the engine has a wheel for older systems",
+                    [it for it in alone if "_2_17_" in it.name],
+                    alone,
+                )
             declared(wheel, True)
             tried(Room(top / "built", wheel), True)
     return needs.tell_checks()

@@ -1,6 +1,6 @@
 #!/usr/bin/env python3
 """Compares two libraries of include/fhpgas.h call by call: random lawful and refused calls must return the same status and leave the same
-memory. Without words these are the plain library of `make plain` and the proved one that make left beside the package, with `page` the
+memory. Without words these are the plain library that looks at each index and the proved one that make left beside the package, with `page` the
 page's module and the proved one. For what this process cannot load PLAIN is a command that calls it (calls.c, tests/page/calls.mjs).
 
     tests/plain/calls.py [page | PLAIN PROVED [SEED ROUNDS]]
@@ -83,10 +83,10 @@ def compare(names, seed, rounds):
 
 
 def libraries():
-    plain = needs.ROOT / "out/plain/libfhpgas.so"
+    plain = needs.ROOT / "out/checked/libfhpgas.so"
     proved = sorted((needs.ROOT / "python/fhpgas").glob("libfhpgas-x86-64-v2.so"))
     if not plain.exists():
-        needs.stop(f"{plain} is missing: run make plain first")
+        needs.stop(f"{plain} is missing: run plain/build.sh out/checked checked first")
     if not proved:
         needs.leave_out("the proved library is missing, which make builds")
     return [str(plain), *map(str, proved)]

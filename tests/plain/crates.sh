@@ -8,8 +8,8 @@ target=(${CARGO_BUILD_TARGET:+--target="$CARGO_BUILD_TARGET" -Clinker="$LINKER"}
 "${RUSTC:-rustc}" --edition=2024 --test "${target[@]}" tests/plain/ring.rs -o "$room/ring" || exit 1
 read -r -a run <<< "${RUNNER-}"
 "${run[@]}" "$room/ring" > "$room/log" || cat "$room/log"
-plain/workspace.py out/plain/workspace || exit 1
-cd out/plain/workspace || exit 1
+plain/workspace.py out/checked/workspace || exit 1
+cd out/checked/workspace || exit 1
 offline=$([ ! -e .cargo/config.toml ] || echo --offline)
 cargo test --quiet ${offline:+"$offline"} --lib "${tests[@]/#/-p}" >> "$room/log" 2>&1 || cat "$room/log"
 ran=$(awk '/^test result: / { n += $4 } END { print n + 0 }' "$room/log")

@@ -13,11 +13,17 @@ import sys
 sys.path.append(f"{sys.path[0]}/../lib")
 import needs
 
-PLAIN = needs.ROOT / "out/plain/fhpgas"
-LIBRARY = needs.ROOT / "out/plain/libfhpgas.so"
+PLAIN = needs.ROOT / "out/checked/fhpgas"
+LIBRARY = needs.ROOT / "out/checked/libfhpgas.so"
 PROVED = needs.ROOT / "crates/fhpgas/out/fhpgas"
 BUILD = b"plain Rust, checked, not proved"
 MOST_REQUESTS = 400
+REQUESTS = [
+    "check",
+    "run --generations 2 --stages 2",
+    "run --generations 5 --stages 4 --threads 2",
+    "coarse --generations 1 --stages 1 --block-width 2 --block-height 2",
+]
 SCENE = 'gas = "fhp1"\nchirality = "left"\ncells = ["........", "......01"]\n'
 MAP = 'gas = "fhp1"\ncells = ["01"]\n'
 READ = "gas fhp1 width 1 height 1 solid 0 particles 1\n"
@@ -66,15 +72,19 @@ class Differences(unittest.TestCase):
         with tempfile.TemporaryDirectory() as room:
             refuse = f"{room}/refuse.so"
             needs.compiled("tests/program/refusal/refuse.c", refuse, "-shared", "-fPIC", "-ldl")
-            statuses = []
-            for number in range(1, MOST_REQUESTS):
-                done = run(PLAIN, "check", LD_PRELOAD=refuse, REFUSE_FROM=str(number))
-                statuses.append(done.returncode)
-                if done.returncode == 0:
-                    break
-                with self.subTest(number):
-                    self.assertEqual(done.stdout, b"")
-                    self.assertIn(done.returncode, (3, -signal.SIGABRT))
+            for words in REQUESTS:
+                with self.subTest(words):
+                    self.refuse_from_each_on(refuse, words.split())
+
+    def refuse_from_each_on(self, refuse, words):
+        statuses = []
+        for number in range(1, MOST_REQUESTS):
+            done = run(PLAIN, *words, LD_PRELOAD=refuse, REFUSE_FROM=str(number))
+            statuses.append(done.returncode)
+            if done.returncode == 0:
+                break
+            self.assertEqual(done.stdout, b"", number)
+            self.assertIn(done.returncode, (3, -signal.SIGABRT), number)
         self.assertEqual(statuses[-1], 0)
         self.assertIn(3, statuses)
         self.assertIn(-signal.SIGABRT, statuses)
@@ -100,5 +110,5 @@ class Differences(unittest.TestCase):
 
 for path in PLAIN, LIBRARY:
     if not path.exists():
-        needs.stop(f"{path} is missing: run make plain first")
+        needs.stop(f"{path} is missing: run plain/build.sh out/checked checked first")
 needs.run_tests()

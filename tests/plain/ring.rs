@@ -7,7 +7,7 @@ mod alloc;
 mod rtrb;
 
 use alloc::Global;
-use rtrb::{ChunkError, Consumer, RingBuffer};
+use rtrb::{ChunkError, Consumer, Producer, RingBuffer};
 
 const ITEMS: u32 = 200;
 
@@ -24,6 +24,27 @@ fn whole_slices_or_none() {
     assert_eq!(producer.push_entire_slice(&[5, 6, 7]), Ok(())); // round the end
     let mut out = [0; 3];
     assert_eq!((consumer.pop_entire_slice(&mut out), out), (Ok(()), [5, 6, 7]));
+}
+
+/// Two slices are under way when the places pass 2^32, the first of them in its first part.
+#[test]
+fn past_two_to_the_32_items() {
+    const MANY: usize = (1 << 20) - 1;
+    let (mut producer, mut consumer) = RingBuffer::new::<u8>(Global, 2 * MANY + 3).unwrap();
+    let mut items = vec![0; MANY];
+    let (mut first, mut rest) = (vec![0; 5000], vec![0; MANY - 5000]);
+    let mut put = |round: usize, producer: &mut Producer<u8>| {
+        [items[0], items[5000], items[MANY - 1]] = [0, 1, 2].map(|part| (3 * round + part) as u8);
+        assert_eq!(producer.push_entire_slice(&items), Ok(()));
+    };
+    put(0, &mut producer);
+    for round in 0..(1 << 12) + 3 {
+        put(round + 1, &mut producer);
+        assert_eq!(consumer.pop_entire_slice(&mut first), Ok(()));
+        assert_eq!(consumer.pop_entire_slice(&mut rest), Ok(()));
+        let came = [first[0], rest[0], rest[MANY - 5001]];
+        assert_eq!(came, [0, 1, 2].map(|part| (3 * round + part) as u8), "slice {round}");
+    }
 }
 
 /// Whether all items come, each once and in order, some at a time.

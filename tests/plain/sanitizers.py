@@ -24,7 +24,7 @@ sys.path.append(str(needs.ROOT / "plain"))
 import workspace
 
 PLANS = 60
-OUT = needs.ROOT / "out/plain"
+OUT = needs.ROOT / "out/checked"
 PLAIN = OUT / "fhpgas"
 TARGET = "x86_64-unknown-linux-gnu"  # named, so that what cargo runs as it builds has no sanitizer
 LIBRARIES = {"thread": "tsan", "address": "asan"}
@@ -171,5 +171,5 @@ class Sanitized(unittest.TestCase):
 
 
 if not PLAIN.exists():
-    needs.stop(f"{PLAIN} is missing: run make plain first")
+    needs.stop(f"{PLAIN} is missing: run plain/build.sh out/checked checked first")
 needs.run_tests()

@@ -19,11 +19,11 @@ USED = {name for uses in workspace.crates().values() for name in uses}
 OTHERS = USED - workspace.crates().keys()  # crates that are not built here
 PATH = re.compile(rf"(?<![\w:.])(?:std|{'|'.join(sorted(OTHERS))})::(?:\w+::)*(?:\w+|\{{[^}}]*\}})")
 
-# Sources, and below each its Rust by hand, without the names that each file gets.
+# Sources, and below each its Rust by hand (\\n is in a text), without the names that each file gets.
 EXAMPLES = r"""
 clauses:
   fn one(x: u32) -> u32\n    requires { x ≡ 1 }\n    ensures few { f {x} ≤ x' }\n{\n    x\n}
-  fn one(x: u32) -> u32\n{\n    x\n}
+  #[doc = "\\n\\nRequires `x ≡ 1`."] fn one(x: u32) -> u32\n{\n    x\n}
 ghost items:
   /// Of a proof.\nghost use A.{b, c};\nstruct S {\n    x: u8,\n    ghost fits: { x ≤ 3 },\n}
   // Of a proof.\nstruct S {\n    x: u8,\n}
@@ -52,6 +52,7 @@ a call for C:
   #[unsafe(no_mangle)]\npub extern "C" fn f(n: u32, a: &[u8], b: &mut [u64]) -> u32 { 0 }
   #[unsafe(export_name = "f")] pub unsafe extern "C" fn f_c(n: u32, a: *const u8, a_length: usize, b: *mut u64, b_length: usize) -> u32 { unsafe { f(n, shim::c::slice(a, a_length), shim::c::slice_mut(b, b_length)) } } pub fn f(n: u32, a: &[u8], b: &mut [u64]) -> u32 { 0 }
 """
+LINE_END = re.compile(r"(?<!\\)\\n")
 
 
 def squeezed(text):
@@ -78,7 +79,8 @@ class Strip(unittest.TestCase):
         lines = iter(EXAMPLES.strip().split("\n"))
         for name, *texts in zip(lines, lines, lines, strict=True):
             with self.subTest(name):
-                source, wanted = (text.strip().replace(r"\n", "\n") + "\n" for text in texts)
+                source, wanted = (LINE_END.sub("\n", text.strip()) + "\n" for text in texts)
+                wanted = wanted.replace(r"\\n", r"\n")
                 self.assertEqual(squeezed(strip.plain(source)), squeezed(wanted))
 
     def test_lines_stay(self):
@@ -88,6 +90,13 @@ class Strip(unittest.TestCase):
                 made = strip.plain(text)
                 self.assertEqual(made.count("\n"), text.count("\n"))
                 self.assertIsNone(re.search(r"^\s*(ghost|requires|ensures)\b", made, re.M))
+
+    def test_no_requirement_is_lost(self):
+        for path in SOURCES:
+            with self.subTest(path.name):
+                text = path.read_text()
+                number = len(re.findall(r"^ +requires\b", text, re.M))
+                self.assertEqual(strip.plain(text).count("Requires `"), number)
 
     def test_what_is_not_understood(self):
         for source in "fn f()\n    requires { a {\n{ }\n", "#[tactic(a\n", "fn f() { a[1 }\n":

@@ -1,11 +1,12 @@
 #!/bin/bash
-# Tries ./fhpgas and the Makefile on four small crates, with stubs for the kit and for wasm-opt: rt notes the crate that it is called in, and
+# Tries ./fhpgas and the Makefile on four small crates, with stubs for the kit, cargo and wasm-opt: rt notes the crate that it is called in, and
 # "builds" it unless that contains a file `refused`, whose text it prints. At last the kit itself refuses a wrong body. Ends with the counts.
 . "$(dirname "$0")/../lib/try.sh"
 
 export top=$room/top kit=$room/kit room
-mkdir -p "$kit"/{bin,toolchain/bin} "$top"/crates/{low,tests,gas_export,fhpgas}/{src,must-fail} "$top"/{python/fhpgas,page}
-cp -r Makefile fhpgas tools include "$top"
+mkdir -p "$kit"/{bin,toolchain/bin} "$top"/crates/{low,tests,gas_export,fhpgas}/{src,must-fail} "$top"/{python/fhpgas,page,plain}
+cp -r Makefile fhpgas tools include CITATION.cff "$top" && cp plain/build.sh "$top/plain"
+printf '#!/bin/sh\nmkdir -p out/plain/workspace\n' > "$top/plain/workspace.py" && chmod +x "$top/plain/workspace.py"
 printf "#!/bin/sh\ncp \${2%%/*}/level \$1\n" > "$top/tools/archive.sh"
 printf '# the crates\nlow: core\ngas_export staticlib: low\n\nfhpgas: low clap\ntests: low\n' > "$top/crates.txt"
 touch "$top"/crates/{low,tests,gas_export}/src/lib.rt "$top/crates/fhpgas/src/main.rt"
@@ -27,7 +28,7 @@ while [ $# != 0 ]; do [ "$1" != -o ] || echo "$words" > "$2"; shift; done
 END
 chmod +x "$kit/bin"/* && cp "$kit/bin/rattle-link" "$kit/toolchain/bin/ld.lld"
 with_all=$PATH
-ln -s /usr/bin/* "$kit/bin" && rm -f "$kit/bin/wasm-opt"
+ln -s /usr/bin/* "$kit/bin" && rm -f "$kit/bin"/{wasm-opt,cargo}
 PATH=$kit/bin
 cd "$top" || exit 1
 
@@ -98,8 +99,21 @@ mv "$kit/bin/rt" "$room/rt"
 try 'without the kit a program that is older than its sources runs' launch
 try 'with a warning' grep -q 'this program is older than its sources' "$room/told"
 rm crates/fhpgas/out/fhpgas
-try 'and without a program one sentence says what is missing' fails 'the command rt of the Rattle kit, which builds it, is not on the PATH'
-try 'and no more' [ "$(wc -l < "$room/told")" = 1 ]
+try 'and without a program and without Rust it says what is missing' fails 'plain Rust needs cargo'
+try 'with the packages' grep -q 'apt-get install rustc-web cargo-web' "$room/told"
+try 'and no more' [ "$(wc -l < "$room/told")" = 2 ]
+cat > "$kit/bin/cargo" << 'END'
+#!/bin/sh
+echo plain >> "$room/built"
+mkdir -p target/release && cp "$room/plain" target/release/fhpgas
+END
+printf '#!/bin/sh\necho "words $*"\ncat\nexit 3\n' > "$room/plain" && chmod +x "$kit/bin/cargo" "$room/plain"
+try 'with Rust it is built by plain Rust' builds 'plain' launch
+try 'which is announced once' [ "$(grep -c 'plain Rust builds this program, not proved' "$room/told")" = 1 ] && [ "$(wc -l < "$room/told")" = 1 ]
+try 'and then it is run' builds '' quietly
+try 'after an edit it is built again' edited fhpgas/src/main.rt builds 'plain' launch
+rm "$kit/bin/cargo" && edit fhpgas/src/main.rt
+try 'without Rust a plain program that is there runs' builds '' launch
 mv "$room/rt" "$kit/bin/rt"
 echo "env: 'python3': No such file" > "$room/no_kit"
 try 'a kit that does not run ends with status 70 too, and what it said is shown' fails "the Rattle kit does not answer.*: env: 'python3': No such file"

@@ -41,7 +41,15 @@ try 'the release is made' env DRAFT=yes tools/release.sh "$room/release"
 version=$(crates/fhpgas/out/fhpgas --version | cut -d ' ' -f 2)
 archive=fhpgas-$version-linux-x86-64.tar.gz
 try 'it has archive, page and lesson' has_files "$archive" fhpgas.html LESSON.md NOTICES.md LICENSE-MIT LICENSE-APACHE
-try 'it has a wheel for Linux and one for all systems' [ "$(find "$room/release" -maxdepth 1 -name '*.whl' | wc -l)" = 2 ]
+try 'it has wheels for Linux, of the engine for older ones, and for all systems' [ "$(find "$room/release" -maxdepth 1 -name '*.whl' | wc -l)" = 3 ]
+# took TAGS..: whether of all wheels of the release pip takes the one with these words in its name
+took() {
+    rm -rf "$room/taken"
+    "$python" -m pip download -q --no-deps --no-index --find-links "$room/release" --find-links "$room/release/plain" -d "$room/taken" "${@:2}" fhpgas &&
+        find "$room/taken" -name "$1" | grep -q .
+}
+try 'of these and the plain ones pip takes the proved one' took '*-1proved-*_2_34_x86_64.whl'
+try 'on an older system it takes the engine' took '*-1proved-*_2_17_x86_64.whl' --platform manylinux_2_28_x86_64 --platform manylinux_2_17_x86_64
 try 'and their source' has_files "fhpgas-$version.tar.gz"
 try 'the sums are of all that is in it' [ "$(find "$room/release" -type f | wc -l)" = "$(($(grep -c '' "$room/release/SHA256SUMS") + 1))" ]
 try 'and are right' env -C "$room/release" sha256sum --check --quiet SHA256SUMS
@@ -67,11 +75,12 @@ FHPGAS=$folder/fhpgas part tests/package/wheel.py "$folder"/fhpgas-*.whl
 
 # What may be passed on: sources that cargo took without Python, and a program and a wheel of them, which trust the proofs.
 plain=$room/release/plain
-tested() { awk -F '"' '/^name/ { name = $2 } /^version/ { version = $2 } /^source/ { print name "-" version }' out/plain/workspace/Cargo.lock; }
+tested() { awk -F '"' '/^name/ { name = $2 } /^version/ { version = $2 } /^source/ { print name "-" version }' out/checked/workspace/Cargo.lock; }
 packed() { tar -tzf "$plain/fhpgas-$version-rust.tar.gz" | sed -n 's|^[^/]*/vendor/\([^/]*\)/.*|\1|p'; }
 try 'plain Rust has the crates that were tested, and no others' diff <(tested | sort) <(packed | sort -u)
 try 'its program says what it trusts' grep -q '(plain Rust, trusts the proofs of a draft of commit .*, not proved)' <("$plain/fhpgas-linux-x86_64" --version)
 FHPGAS=$plain/fhpgas-linux-x86_64 part tests/program/command_line.py
+try 'and the crate for Rust' has_files "plain/fhpgas-$version.crate"
 try 'its wheel unpacks' "$python" -m zipfile -e "$plain"/fhpgas-*.whl "$room/plain"
 for level in v2 v3; do
     part tests/plain/calls.py {"$room/plain",python}/fhpgas/libfhpgas-x86-64-$level.so 20 500

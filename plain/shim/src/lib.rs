@@ -7,6 +7,10 @@ extern crate alloc as heap;
 #[cfg(feature = "std")]
 extern crate std;
 
+// The page's module has 32 bits, and compares lengths in 64. Rings count words without end.
+#[cfg(not(any(target_pointer_width = "64", target_arch = "wasm32")))]
+compile_error!("the sources are proved for a usize of 64 bits, which this target has not");
+
 pub mod alloc;
 pub mod c;
 mod index;

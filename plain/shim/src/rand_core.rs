@@ -11,4 +11,7 @@ pub mod utils {
         #[inline(always)]
         fn next_word(&mut self) -> u32 { self.next_u32() }
     }
+    /// Two words of 32 bits, the low half first.
+    #[inline(always)]
+    pub fn next_u64_via_u32<R: RngCore>(rng: &mut R) -> u64 { rng.next_u64() }
 }

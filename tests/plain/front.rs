@@ -1,0 +1,206 @@
+//! Tries the crate `fhpgas` from outside, as safe code: beside a walk from cell to cell, and with random
+//! arguments, of which none may panic. ROUNDS says how many.
+#![forbid(unsafe_code)]
+use fhpgas::{Chirality, Error, Gas, Lattice, Sums};
+use std::collections::BTreeSet;
+
+/// Numbers that look random.
+struct Random(u64);
+
+impl Random {
+    fn next(&mut self) -> u64 {
+        self.0 = self.0.wrapping_add(0x9e37_79b9_7f4a_7c15);
+        let x = (self.0 ^ (self.0 >> 30)).wrapping_mul(0xbf58_476d_1ce4_e5b9);
+        let x = (x ^ (x >> 27)).wrapping_mul(0x94d0_49bb_1331_11eb);
+        x ^ (x >> 31)
+    }
+    fn below(&mut self, end: u64) -> u64 { self.next() % end }
+    fn of<T: Copy>(&mut self, items: &[T]) -> T { items[self.below(items.len() as u64) as usize] }
+    fn gas(&mut self) -> Gas { self.of(&[Gas::Fhp1, Gas::Hpp, Gas::FhpRest]) }
+    fn chirality(&mut self) -> Chirality {
+        let seed = self.next();
+        self.of(&[Chirality::Left, Chirality::Right, Chirality::Seeded(seed)])
+    }
+    fn cells(&mut self, gas: Gas, number: usize) -> (Vec<u8>, Vec<u8>) {
+        let solid: Vec<u8> = (0..number).map(|_| u8::from(self.below(9) == 0)).collect();
+        let state = |solid: &u8| if *solid == 1 { 0 } else { self.below(1 << gas.directions()) as u8 };
+        (solid.iter().map(state).collect(), solid)
+    }
+}
+
+fn rounds() -> u64 {
+    std::env::var("ROUNDS").map_or(300, |text| text.parse().unwrap())
+}
+
+/// Where a particle goes from column x of row y in a direction, by the geometry of the gas.
+fn next(gas: Gas, direction: u32, x: i64, y: i64) -> (i64, i64) {
+    let odd = y & 1;
+    match (gas, direction) {
+        (Gas::Hpp, _) => [(x + 1, y), (x, y - 1), (x - 1, y), (x, y + 1)][direction as usize],
+        (_, 6) => (x, y),
+        _ => [(x + 1, y), (x + odd, y - 1), (x - 1 + odd, y - 1), (x - 1, y), (x - 1 + odd, y + 1), (x + odd, y + 1)]
+            [direction as usize],
+    }
+}
+
+/// A generation of HPP, cell by cell: head-on pairs turn by a right angle, then each particle moves, or
+/// turns back in its cell where a wall or a solid cell is.
+fn hpp_generation(width: i64, height: i64, states: &[u8], solid: &[u8]) -> Vec<u8> {
+    let mut after = vec![0; states.len()];
+    for (i, &state) in states.iter().enumerate() {
+        let (x, y) = (i as i64 % width, i as i64 / width);
+        let state = match state { 0b0101 => 0b1010, 0b1010 => 0b0101, other => other };
+        for direction in (0..4).filter(|k| state >> k & 1 == 1) {
+            let (to, row) = next(Gas::Hpp, direction, x, y);
+            let there = (row * width + to.rem_euclid(width)) as usize;
+            if row < 0 || row >= height || solid[there] == 1 {
+                after[i] |= 1 << ((direction + 2) % 4);
+            } else {
+                after[there] |= 1 << direction;
+            }
+        }
+    }
+    after
+}
+
+#[test]
+fn hpp_is_as_cell_by_cell() {
+    let mut random = Random(1);
+    for _ in 0..60 {
+        let (width, height) = (1 + random.below(140) as u32, 1 + random.below(12) as u32);
+        let (mut states, solid) = random.cells(Gas::Hpp, width as usize * height as usize);
+        let chirality = random.chirality();
+        let mut lattice = Lattice::new(Gas::Hpp, chirality, (width, height), &states, &solid).unwrap();
+        for generation in 1..9 {
+            lattice.run(1).unwrap();
+            states = hpp_generation(width.into(), height.into(), &states, &solid);
+            assert_eq!((lattice.states(), lattice.generation()), (states.clone(), generation));
+        }
+    }
+}
+
+#[test]
+fn one_particle_flies_straight() {
+    for gas in [Gas::Fhp1, Gas::Hpp, Gas::FhpRest] {
+        for direction in 0..gas.directions() {
+            let (mut x, mut y) = (70, 20);
+            let mut states = vec![0; 150 * 41];
+            states[y as usize * 150 + x as usize] = 1 << direction;
+            let mut lattice = Lattice::new(gas, Chirality::Left, (150, 41), &states, &[0; 150 * 41]).unwrap();
+            lattice.run(15).unwrap();
+            (0..15).for_each(|_| (x, y) = next(gas, direction, x, y));
+            assert_eq!(lattice.states()[y as usize * 150 + x as usize], 1 << direction);
+            assert_eq!(lattice.profile().unwrap()[y as usize].particles, 1);
+        }
+    }
+}
+
+#[test]
+fn planes_blocks_and_parts_of_runs_agree() {
+    let mut random = Random(2);
+    for _ in 0..200 {
+        let (gas, chirality) = (random.gas(), random.chirality());
+        let (width, height) = (1 + random.below(200) as u32, 1 + random.below(20) as u32);
+        let (states, solid) = random.cells(gas, width as usize * height as usize);
+        let lattice = Lattice::new(gas, chirality, (width, height), &states, &solid).unwrap();
+        assert_eq!((lattice.states(), lattice.solid()), (states.clone(), solid.clone()));
+        let planes: Vec<u64> = lattice.rows().flatten().copied().collect();
+        let words = width.div_ceil(64) as usize;
+        let mut walls = vec![u64::MAX; words * height as usize]; // what is past the width means nothing
+        for (i, byte) in solid.iter().enumerate().filter(|(_, byte)| **byte == 0) {
+            let (x, y) = (i % width as usize, i / width as usize);
+            walls[y * words + x / 64] &= !(1 << (x % 64));
+            assert_eq!(*byte, 0);
+        }
+        assert_eq!(Lattice::from_planes(gas, chirality, (width, height), planes, walls), Ok(lattice.clone()));
+        let (mut once, mut twice) = (lattice.clone(), lattice);
+        let (all, part) = (random.below(12), random.below(5));
+        once.run(all + part).unwrap();
+        twice.run(all).unwrap();
+        twice.run(part).unwrap();
+        assert_eq!(once, twice);
+        let (w, h) = (1 + random.below(80) as u32, 1 + random.below(9) as u32);
+        let states = once.states();
+        let columns = width.div_ceil(w) as usize;
+        let mut wanted = vec![(0, 0); columns * height.div_ceil(h) as usize];
+        for (i, (state, solid)) in states.iter().zip(&solid).enumerate() {
+            let (x, y) = (i % width as usize, i / width as usize);
+            let block = &mut wanted[y / h as usize * columns + x / w as usize];
+            *block = (block.0 + i64::from(1 - solid), block.1 + i64::from(state.count_ones()));
+        }
+        let found = once.blocks(w, h).unwrap();
+        assert_eq!(found.iter().map(|it| (it.fluid, it.particles)).collect::<Vec<_>>(), wanted);
+        let total = |sums: &[Sums]| sums.iter().map(|it| (it.east, it.north)).fold((0, 0), |a, b| (a.0 + b.0, a.1 + b.1));
+        assert_eq!(total(&found), total(&once.profile().unwrap()));
+    }
+}
+
+#[test]
+fn what_is_unlawful_has_a_name() {
+    let new = |size, states: &[u8], solid: &[u8]| Lattice::new(Gas::Hpp, Chirality::Left, size, states, solid);
+    assert_eq!(new((0, 3), &[], &[]), Err(Error::Size(0, 3)));
+    assert_eq!(new((65537, 1), &[], &[]), Err(Error::Size(65537, 1)));
+    assert_eq!(new((2, 2), &[0; 3], &[0; 4]), Err(Error::Length("states", 3, 4)));
+    assert_eq!(new((2, 2), &[0; 4], &[0; 5]), Err(Error::Length("solid", 5, 4)));
+    assert_eq!(new((2, 2), &[0, 16, 0, 0], &[0; 4]), Err(Error::Value("states")));
+    assert_eq!(new((2, 2), &[0; 4], &[0, 0, 2, 0]), Err(Error::Value("solid")));
+    assert_eq!(new((2, 2), &[0, 0, 0, 3], &[0, 0, 0, 1]), Err(Error::Particle(1)));
+    let mut lattice = new((2, 2), &[1; 4], &[0; 4]).unwrap();
+    let before = lattice.clone();
+    lattice.run(3).unwrap();
+    assert_eq!(lattice.run(u64::MAX), Err(Error::Generations(u64::MAX)));
+    assert_eq!(lattice.generation(), 3);
+    assert_eq!(before.blocks(0, 2), Err(Error::Block(0, 2)));
+    let names: BTreeSet<String> = [Error::Size(0, 1), Error::Value("solid"), Error::Memory].map(|it| it.to_string()).into();
+    assert_eq!(names.len(), 3);
+}
+
+/// Any arguments: each call returns, and what it returns is of the right size.
+#[test]
+fn nothing_panics() {
+    let mut random = Random(3);
+    let (mut lawful, mut refused) = (0, 0);
+    for _ in 0..rounds() {
+        let mut side = || if random.below(9) == 0 { random.of(&[0, 65536, 65537, u32::MAX]) } else { random.below(200) as u32 };
+        let (width, height) = (side(), side());
+        let number = (u64::from(width) * u64::from(height)).min(50_000) as usize;
+        let number = if random.below(9) == 0 { random.below(300) as usize } else { number };
+        let gas = random.gas();
+        let (mut states, mut solid) = random.cells(gas, number);
+        for bytes in [&mut states, &mut solid] {
+            if random.below(9) == 0 && !bytes.is_empty() {
+                let i = random.below(bytes.len() as u64) as usize;
+                bytes[i] = random.next() as u8;
+            }
+        }
+        let chirality = random.chirality();
+        let made = if random.below(2) == 0 {
+            Lattice::new(gas, chirality, (width, height), &states, &solid)
+        } else {
+            let n = width.div_ceil(64) as usize * height as usize;
+            let wrong = usize::from(random.below(9) == 0);
+            let n = n.min(20_000) + wrong;
+            let planes = (0..n * gas.directions() as usize).map(|_| random.next() & random.next());
+            Lattice::from_planes(gas, chirality, (width, height), planes.collect(), vec![0; n])
+        };
+        let Ok(mut lattice) = made else {
+            refused += 1;
+            assert!(!made.unwrap_err().to_string().is_empty());
+            continue;
+        };
+        lawful += 1;
+        let particles: i64 = lattice.profile().unwrap().iter().map(|it| it.particles).sum();
+        let generations = 1 + random.below(8);
+        lattice.run(generations).unwrap();
+        lattice.run(u64::MAX - random.below(generations)).unwrap_err();
+        let (w, h) = (random.of(&[0, 1, 7, u32::MAX]), random.of(&[0, 1, 3, u32::MAX]));
+        if let Ok(blocks) = lattice.blocks(w, h) {
+            assert_eq!(blocks.iter().map(|it| it.particles).sum::<i64>(), particles);
+        } else {
+            assert!(w == 0 || h == 0);
+        }
+        let after: u32 = lattice.states().iter().map(|state| state.count_ones()).sum();
+        assert_eq!(i64::from(after), particles);
+    }
+    assert!(lawful > 0 && refused > 0);
+}

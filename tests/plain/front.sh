@@ -1,0 +1,55 @@
+#!/bin/bash
+# Makes the crate fhpgas and tries it as it is handed out: its tests, also with random arguments, its documents, its package, and from a new
+# project that forbids unsafe code, which prints the cells that the program prints. ROUNDS says how many random arguments. Ends with the counts.
+. "$(dirname "$0")/../lib/try.sh"
+program=${FHPGAS:-out/checked/fhpgas}
+crate=$PWD/out/crate
+plain/crate.py "$crate" || exit 1
+offline=$([ ! -e "$crate/.cargo" ] || echo --offline)
+# cargo_in FOLDER WORDS..: silent unless it fails
+cargo_in() { (cd "$1" && cargo "$2" --quiet ${offline:+"$offline"} "${@:3}") > "$room/told" 2>&1 || { cat "$room/told" && false; }; }
+
+try 'its tests pass' cargo_in "$crate" test
+try 'its documents are made' cargo_in "$crate" doc --no-deps
+try 'without a warning' [ ! -s "$room/told" ]
+if cargo clippy --version > /dev/null 2>&1; then try 'clippy has nothing to say' cargo_in "$crate" clippy --all-targets -- -Dwarnings; else leave_out 'clippy'; fi
+rm -rf "$crate/target/package"
+try 'its package is whole' cargo_in "$crate" package --allow-dirty --no-verify
+mkdir "$room/packed" && tar -xzf "$crate"/target/package/fhpgas-*.crate -C "$room/packed" --strip-components=1
+try 'unsafe code is in the shim alone' [ -z "$(grep -rlwE 'unsafe' "$room/packed/src" | grep -vE 'src/shim/|src/lib.rs$')" ]
+try 'and not in the front' [ "$(grep -cw unsafe "$room/packed/src/lib.rs")" = 0 ]
+
+mkdir -p "$room/new/src"
+[ ! -e "$crate/.cargo" ] || cp -r "$crate/.cargo" "$room/new"
+printf '[package]\nname = "new"\nversion = "0.1.0"\nedition = "2024"\n' > "$room/new/Cargo.toml"
+cat > "$room/new/src/main.rs" << 'END'
+#![forbid(unsafe_code)]
+use fhpgas::{Chirality, Gas, Lattice};
+
+/// The lattice of a scene that is a map of 24 columns, some generations later, as the program prints it.
+fn main() -> Result<(), fhpgas::Error> {
+    let mut states: Vec<u8> = (0..24 * 10).map(|i| (i * 37 % 64) as u8).collect();
+    let solid: Vec<u8> = (0..24 * 10).map(|i| u8::from(i % 31 == 5)).collect();
+    states.iter_mut().zip(&solid).for_each(|(state, solid)| *state *= 1 - solid);
+    let mut lattice = Lattice::new(Gas::Fhp1, Chirality::Seeded(11), (24, 10), &states, &solid)?;
+    lattice.run(std::env::args().nth(1).and_then(|word| word.parse().ok()).unwrap_or(0))?;
+    for (row, solid) in lattice.states().chunks(24).zip(solid.chunks(24)) {
+        let cell = |(state, solid): (&u8, &u8)| match (state, solid) {
+            (_, 1) => "##".to_string(),
+            (0, _) => "..".to_string(),
+            (state, _) => format!("{state:02x}"),
+        };
+        println!("{}", row.iter().zip(solid).map(cell).collect::<String>());
+    }
+    Ok(())
+}
+END
+cargo_in "$room/new" add --path "$room/packed" --no-default-features
+try 'a new project takes it' cargo_in "$room/new" build
+new=$room/new/target/debug/new
+{ printf 'gas = "fhp1"\nseed = 11\ncells = [\n' && "$new" | sed 's/.*/"&",/' && echo ']'; } > "$room/scene.toml"
+for generations in 0 1 2 50 333; do
+    try "its cells of generation $generations are the program's" \
+        diff <("$new" $generations) <("$program" run --generations $generations < "$room/scene.toml" | tail -n +2)
+done
+tell
