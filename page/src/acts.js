@@ -1,23 +1,23 @@
 // What the controls do.
-import { applyState, isShort, setControl, showOpened, stateText, writeAddress } from "./address.js";
+import { applyState, hasText, isShort, refusal, setControl, showOpened, sizes, stateText, writeAddress } from "./address.js";
 import { record, save } from "./files.js";
 import { GASES } from "./gases.js";
-import { closer, fit, looked } from "./look.js";
+import { closer, fit, looked, paced } from "./look.js";
+import { spelled } from "./message.js";
 import { count } from "./numbers.js";
 import { paintNumbers } from "./panel.js";
 import { repaint, tellNumbers, update } from "./screen.js";
 import { $, amount, asked, chosen, element, head, look, marks, motion, preset, shown, view } from "./state.js";
-import { go, isSlow, move } from "./time.js";
+import { go, move } from "./time.js";
 import { tell } from "./wire.js";
 import { hideNotes, introduce, note } from "./words.js";
 
 const isStill = matchMedia("(prefers-reduced-motion: reduce)").matches, bodyClass = document.body.classList;
-const before = { pace: "" }; // single cells
 
 /** The starts of the controls. @param {string} [lengths] what was drawn */
 function startsOf(lengths) {
-  const { gases, shapes } = preset(), [width, height] = $("size").value.split(" x ").map(Number);
-  return shapes.map((shape, k) => ({ width, height, shape, lengths, gas: gases.length > 1 ? gases[k] : $("gas").value,
+  const { gases, shapes } = preset(), [width, height] = sizes();
+  return shapes.map((shape, k) => ({ width, height, shape, lengths, text: chosen.text, gas: gases.length > 1 ? gases[k] : $("gas").value,
     chirality: $("chirality").value, keep: $("keep").checked,
     isDeveloped: $("developed").checked, seed: String(Math.round(amount("seed"))),
     filling: amount("fill"), wind: amount("wind"), radius: amount("radius") }));
@@ -25,6 +25,8 @@ function startsOf(lengths) {
 
 /** @param {boolean} [hasLength] @param {string} [lengths] what was drawn */
 export function start(hasLength = false, lengths = "") {
+  const why = hasText() && shown.frames.length ? refusal(chosen.text) : "";
+  if (why) return void note(why, "bad", 9);
   const { rests, length, flips } = preset(), starts = startsOf(lengths), [{ width, height, gas }] = starts;
   const { apart } = GASES[gas];
   showOpened(false);
@@ -32,29 +34,24 @@ export function start(hasLength = false, lengths = "") {
   if (!hasLength) setControl("length", Math.round(length ? 2 * amount("radius") : height * apart));
   hideNotes();
   marks.probe = null;
-  look.isWhole = true;
+  Object.assign(look, { isWhole: true, pace: "" });
   looked();
   tell("start", { starts, state: stateText(), asked: ++asked.starts });
   if (flips) tell("flip", { at: [width / 2, (height * apart) / 2], radius: 1 });
   go(!isStill && !rests);
-  if (shown.frames.length) note("A new start. Undo (⌫) brings the old lattice back.", "", 4);
-  if (isStill || rests) note(`${isStill ? "Your system asks for less motion" : "It rests"}: Run starts it.`, "", 5);
+}
+
+/** A new start with the text of the field, if there is room for it. */
+function write() {
+  const text = spelled($("text").value), why = refusal(text);
+  if (why) return void note(why, "bad", 9);
+  chosen.text = text || chosen.text;
+  start();
 }
 
 function near() {
   closer(Math.max(1, 36 / look.place.scale));
-  if (isSlow()) return;
-  before.pace = $("pace").value;
-  setControl("pace", "1 s");
-  go(shown.isRunning);
-}
-
-/** Shows all, and goes on as fast as before single cells. */
-function whole() {
-  fit();
-  if (before.pace && $("pace").value === "1 s") setControl("pace", before.pace);
-  before.pace = "";
-  go(shown.isRunning);
+  paced(0);
 }
 
 function step() {
@@ -95,10 +92,11 @@ function link() {
   if (shown.isOpened) return note("No link has the cells of a scene that was opened: save the scene, and pass that on.", "bad", 9);
   writeAddress();
   const less = isShort() ? "" : ", without what was drawn, which is too much: save the scene";
-  const told = () => note(`The link to this start is copied${less}.`, "good", 4);
+  const told = () => note(`The link to this start is copied${less}.`, "good", 4), url = location.href;
   const shownOnly = () => note(`This browser does not let the page copy: the link is in the address bar${less}.`, "", 9);
-  if (navigator.clipboard) navigator.clipboard.writeText(location.href).then(told, shownOnly);
+  if (navigator.clipboard) navigator.clipboard.writeText(url).then(told, shownOnly);
   else shownOnly();
+  navigator.share?.({ title: document.title, url }).catch(() => 0); // what the browser or the reader does not want
 }
 
 /** Shows the picture and nothing else, on the full screen if there is one. */
@@ -111,6 +109,7 @@ function bare() {
 function toggle(id, other) {
   $(id).hidden = !$(id).hidden;
   $(other).hidden = true;
+  $("close").hidden = $(id).hidden;
   fold();
   return !$(id).hidden;
 }
@@ -129,6 +128,7 @@ export const acts = {
     start();
   },
   start: () => start(),
+  write,
   gas: command("gas", () => ({ gas: $("gas").value, starts: startsOf(), state: stateText() })),
   chirality: command("chirality", () => ({ chirality: $("chirality").value })),
   keep: command("keep", () => ({ wind: $("keep").checked ? amount("wind") : null })),
@@ -140,12 +140,16 @@ export const acts = {
     looked();
   },
   tool: (tool) => {
-    chosen.tool = tool;
+    Object.assign(chosen, { tool, isTool: true });
     view().style.cursor = tool === "move" ? "grab" : "crosshair";
     fold();
   },
   look: looked,
-  fit: whole,
+  fit: () => {
+    const { scale } = look.place;
+    fit();
+    paced(scale);
+  },
   near,
   closer: () => closer(1.5),
   farther: () => closer(1 / 1.5),

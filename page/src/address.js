@@ -1,15 +1,18 @@
 // The address: after # it has the state of the controls, so that a link shows the same start.
 import { FIELDS } from "./fields.js";
+import { GASES } from "./gases.js";
 import { isLengths } from "./lengths.js";
+import { refusalOf, sealed, unsealed } from "./message.js";
 import { RENAMED } from "./presets.js";
 import { $, chosen, element, head, look, marks, preset, shown } from "./state.js";
 
 export const OPENED = "opened"; // the address of a scene that was opened, which no address has
-const LOW = 480; // pixels of a phone on its side, and lattices that fill its width
-const FLAT = { "1024 x 512": "1024 x 384", "512 x 256": "512 x 192" };
+const DRIVE = "2"; // the number of the force that keeps the wind: another one makes other cells
+const LOW = 480; // pixels of a phone on its side
+const HELLO = "HELLO"; // the message of a start that has none
 const MOST_RUNS = 8000; // letters of what was drawn
-const OF_PRESET = ["chirality", "developed", "fill", "wind", "radius", "pace", "smooth", "span", "keep"];
-const CONTROLS = [...OF_PRESET, "gas", "size", "seed", "length", "tracers"];
+const OF_PRESET = ["size", "chirality", "developed", "fill", "wind", "radius", "pace", "smooth", "span", "keep"];
+const CONTROLS = [...OF_PRESET, "gas", "seed", "length", "tracers"];
 const opened = element("option", { value: OPENED }, "an opened scene");
 let written = ""; // by the page
 
@@ -28,13 +31,32 @@ export function setControl(id, value) {
   return isSet;
 }
 
+/** Whether the start of the controls is a message. */
+export const hasText = () => preset().shapes[0] === "text";
+
 export function stateText() {
-  const state = new URLSearchParams({ scene: chosen.preset, field: chosen.field });
+  const state = new URLSearchParams({ scene: chosen.preset, field: chosen.field, drive: DRIVE });
   for (const id of CONTROLS) state.set(id, valueOf(id));
+  if (hasText()) state.set("text", sealed(chosen.text));
   const rounded = (values) => values.map((value) => Number(value.toFixed(2))).join(" ");
   if (!look.isWhole) state.set("at", rounded([look.place.x, look.place.y, look.place.scale]));
   if (marks.probe) state.set("probe", rounded([...marks.probe.at, marks.probe.radius]));
   return state.toString();
+}
+
+/** Columns and rows. */
+export const sizes = () => $("size").value.split(" x ").map(Number);
+
+/** Why the lattice of the controls has no room for a text, or "". */
+export const refusal = (text, [width, height] = sizes()) => refusalOf(text, width, (height - 1) * GASES[$("gas").value].apart);
+
+/** Takes the message of a state, which nobody reads before it comes back. Returns whether it has one. */
+function takeText(state) {
+  const first = state.get("scene")?.startsWith("an L") ? "L" : HELLO; // as older links had it
+  const text = state.has("text") ? unsealed(state.get("text")) : first, isText = text && !refusal(text);
+  chosen.text = isText ? text : HELLO;
+  $("text").value = "";
+  return isText;
 }
 
 /** Sets the controls by a preset, and by a state. Returns what of the state is no control's, and what it refuses. */
@@ -43,10 +65,10 @@ export function applyState(text) {
   const take = (id) => state.has(id) && !setControl(id, state.get(id)) && refused.push(`${id}=${state.get(id)}`);
   take("scene");
   if ($("scene").value !== OPENED) chosen.preset = $("scene").value;
-  const { size, tall, gases: [gas], ...first } = preset(), flat = innerHeight < LOW ? FLAT[size] : undefined;
+  const { upright, flat } = preset(), fitting = innerHeight > innerWidth ? upright : innerHeight < LOW ? flat : {};
+  const first = { ...preset(), ...fitting };
   for (const id of OF_PRESET) setControl(id, first[id]);
-  setControl("gas", gas);
-  setControl("size", innerHeight > innerWidth ? tall : flat ?? size);
+  setControl("gas", first.gases[0]);
   if (state.has("seed")) setControl("developed", false); // an older link
   CONTROLS.forEach(take);
   const field = state.get("field") ?? first.field, lengths = state.get("runs") ?? "";
@@ -59,9 +81,11 @@ export function applyState(text) {
     if (found) refused.push(`${key}=${state.get(key)}`);
     return null;
   };
-  const [width, height] = $("size").value.split(" x "), isDrawn = isLengths(lengths, 64 * Math.ceil(width / 64) * height);
+  const [width, height] = sizes(), isDrawn = isLengths(lengths, 64 * Math.ceil(width / 64) * height);
   if (!isDrawn) refused.push(`runs=${lengths.slice(0, 20)}`);
-  return { hasLength: state.has("length"), at: numbers("at"), probe: numbers("probe"), lengths: isDrawn ? lengths : "", refused };
+  if (hasText() && !takeText(state)) refused.push(`text=${state.get("text")}`);
+  const isOlder = text !== "" && state.get("drive") !== DRIVE && $("keep").checked;
+  return { isOlder, hasLength: state.has("length"), at: numbers("at"), probe: numbers("probe"), lengths: isDrawn ? lengths : "", refused };
 }
 
 /** Lets the list of scenes say whether one that was opened is shown. */

@@ -24,7 +24,8 @@ export class Cells {
   }
 
   isSolid(at) {
-    return this.state(at) === SOLID;
+    const { kernel: { solid, per }, width } = this, y = Math.floor(at / width), x = at - y * width;
+    return (solid[y * per + (x >> 5)] >>> x & 1) > 0;
   }
 
   has(at, i) {
@@ -132,10 +133,15 @@ export class Cells {
     return left ? null : { flips, moved };
   }
 
-  /** From a random cell on, the next one with a particle in a direction, and none in another, or undefined. */
-  pick(lot, from, to, isOut = (at) => false) {
-    for (let tries = 0, at = 0; tries < 64 + this.number; tries++) {
-      at = tries < 64 ? Math.floor(lot() * this.number) : (at + 1) % this.number;
+  /**
+   * From a random fluid cell on, to either side, the first with a particle in a direction and none in another, or
+   * undefined: so the chance of a place does not depend on the flow there.
+   */
+  pick(lot, from, to, isOut = (at) => this.isSolid(at)) {
+    const { number } = this, step = lot() < 0.5 ? 1 : number - 1;
+    let at = Math.floor(lot() * number);
+    for (let tries = 0; tries < 64 && isOut(at); tries++) at = Math.floor(lot() * number);
+    for (let tries = 0; tries < number; tries++, at = (at + step) % number) {
       if (this.has(at, from) && (from === to || !this.has(at, to)) && !isOut(at)) return at;
     }
   }

@@ -5,21 +5,11 @@ import { LEAST_PERIODS, periodOf } from "./probe.js";
 import { $, amount, head, marks, setText } from "./state.js";
 
 const COLOURS = { u: "#2b8cd6", v: "#e0702a" }; // the style sheet has them too
-const PATIENCE = 500; // milliseconds between two searches for a period
-const found = { at: 0, samples: marks.samples, period: /** @type {ReturnType<typeof periodOf>} */ (null) };
-
-function periodNow(turnover) {
-  const now = performance.now();
-  if (now - found.at > PATIENCE || found.samples !== marks.samples) {
-    Object.assign(found, { at: now, samples: marks.samples, period: periodOf(marks.samples, turnover) });
-  }
-  return found.period;
-}
 
 function linesOf(numbers) {
   const { g, turnover, speed } = numbers;
   const { blockage, incoming } = head(), radius = marks.probe?.radius ?? 0, length = amount("length");
-  const period = g && turnover ? periodNow(turnover) : null;
+  const period = g && turnover ? periodOf(marks.samples, turnover) : null;
   const lines = [`of a disc of ${round(2 * radius)} cells`];
   if (!period || !g) lines.push(`no period yet: ${LEAST_PERIODS} alike are asked for`);
   else {
@@ -39,7 +29,8 @@ export function paintChart(numbers) {
   const { samples } = marks;
   $("probed").hidden = !marks.probe;
   if (!marks.probe) return;
-  const { width, height, context: c } = contextOf($("chart"), true);
+  const { width: wide, height: tall, context: c } = contextOf($("chart"), true), [width, height] = [wide, tall].map((size) => size / theme.unit);
+  c.scale(theme.unit, theme.unit);
   c.clearRect(0, 0, width, height);
   setText($("found"), linesOf(numbers).join("\n"));
   if (!samples.length) return;

@@ -2,13 +2,17 @@
 
 const FONT = '"Segoe UI", Roboto, "Helvetica Neue", "DejaVu Sans", system-ui, sans-serif';
 
-/** The colours of the page, of the light or the dark scheme. */
-export const theme = { isDark: false, ink: "", paper: "", wall: "", arrow: "", meets: "", faint: "" };
+const LETTERS = 15; // pixels for which the canvases are laid out
+
+/** The colours of the page, of the light or the dark scheme, and the size of its letters as a multiple of the usual one. */
+export const theme = { isDark: false, unit: 1, ink: "", paper: "", wall: "", arrow: "", meets: "", faint: "" };
+const COLOURS = Object.keys(theme).slice(2);
 
 export function readTheme() {
   const style = getComputedStyle(document.documentElement);
-  for (const name of Object.keys(theme)) theme[name] = style.getPropertyValue(`--${name}`).trim();
+  for (const name of COLOURS) theme[name] = style.getPropertyValue(`--${name}`).trim();
   theme.isDark = matchMedia("(prefers-color-scheme: dark)").matches;
+  theme.unit = parseFloat(style.fontSize) / LETTERS;
 }
 
 /** The context of a canvas in CSS pixels, with the pixels of the screen. A new size makes it empty. */
@@ -31,9 +35,9 @@ export function imageOf(canvas, width, height, put) {
   return canvas;
 }
 
-export function write(c, text, x, y, { font, align = "left", colour = theme.ink }) {
+export function write(c, text, x, y, { font, align = "left", colour = theme.ink, most = Infinity }) {
   Object.assign(c, { font: `${font} ${FONT}`, textAlign: align, fillStyle: colour });
-  c.fillText(text, x, y);
+  c.fillText(text, x, y, Math.min(most, 1e4));
 }
 
 /** @param {CanvasRenderingContext2D} c @param {number[][]} points @param {string} colour @param {number} wide */

@@ -1,5 +1,5 @@
-// The drive: in every generation particles are turned from west to east, at random fluid cells, until the mean velocity
-// is the wind. What it does therefore does not depend on how many generations a frame has.
+// The drive: in every generation particles are turned from west to east until the mean velocity is the wind. What it does
+// therefore does not depend on how many generations a frame has. Every fluid cell has the same share of the force.
 
 const MEMORY = 1000; // generations of a mean over time
 

@@ -5,9 +5,11 @@ import { Kernel, moduleOf } from "./kernel.js";
 import { count } from "./numbers.js";
 import { flowOf, readScene } from "./scenes.js";
 import { drawn } from "./starts.js";
-import { Stroke, cleared } from "./tools.js";
+import { Stroke } from "./tools.js";
 
-const MOST_UNDO = 50;
+const MOST_UNDO = 50, MOST_STARTS = 4; // of which each keeps a lattice
+
+/** @typedef {{ what: string, undo: () => void }} Done what was done, as the button says it */
 
 export class Experiment {
   make = /** @type {MakeKernel} */ (() => { throw new Error("there is no kernel"); });
@@ -15,7 +17,7 @@ export class Experiment {
   state = ""; // of the controls, with these flows
   serial = 0;
   asked = 0; // the start of the page's that was made last
-  past = /** @type {(() => void)[]} */ ([]); // what undoes what was done
+  past = /** @type {Done[]} */ ([]); // what can be undone
   strokes = /** @type {Map<Flow, Stroke>} */ (new Map()); // what is being drawn
 
   /** Takes the module of a text: all flows go on in it. */
@@ -35,16 +37,28 @@ export class Experiment {
     for (const { flow, twin } of watched) [flow, twin].forEach((one) => one?.moveTo(this.make));
   }
 
+  /** What was done can be undone, the last first. */
+  did(what, undo) {
+    this.past.push({ what, undo });
+    const starts = this.past.flatMap((one, k) => (/start|gas/.test(one.what) ? k : []));
+    const oldest = starts.length > MOST_STARTS ? starts[starts.length - MOST_STARTS] : 0;
+    this.past.splice(0, Math.max(oldest, this.past.length - MOST_UNDO));
+  }
+
   /** New flows. The ones before can be had again. */
   begun(flows, state) {
-    const number = flows.reduce((sum, { cells }) => sum + cells.number, 0), old = this.watched, before = this.state;
+    const number = flows.reduce((sum, { cells }) => sum + cells.number, 0);
     if (number > MOST_CELLS) throw new Error(`${count(number)} cells, and at most ${count(MOST_CELLS)}`);
-    const again = () => {
-      this.move(old);
-      this.show(old, before);
-    };
-    this.past = old.length ? [again] : [];
+    if (this.watched.length) this.keepOld("start");
     this.show(flows.map((flow) => new Watched(flow)), state);
+  }
+
+  keepOld(what) {
+    const { watched, state } = this;
+    this.did(what, () => {
+      this.move(watched);
+      this.show(watched, state);
+    });
   }
 
   show(watched, state) {
@@ -69,15 +83,15 @@ export class Experiment {
       && states[k].every((cell) => cell < 1 << gas.directions || cell === SOLID));
     if (!fits) {
       this.start({ starts, state });
-      const why = `These cells cannot be cells of ${name}, so this is a new start.`;
-      return void this.watched[0].flow.notes.push(`${why} Undo brings the old lattice back.`);
+      return void this.watched[0].flow.notes.push(`These cells cannot be cells of ${name}, so this is a new start.`);
     }
-    this.past = [];
-    this.watched = this.watched.map(({ flow }, k) => {
+    const flows = this.watched.map(({ flow }, k) => {
       const { cells: { width, height }, chirality, seed, sceneGeneration: generation, drive: { wind }, shape } = flow;
       const made = flowOf(this.make, { gas, width, height, states: states[k], chirality, seed, generation, wind });
-      return new Watched(Object.assign(made, { shape }));
+      return Object.assign(made, { shape });
     });
+    this.keepOld("gas");
+    this.watched = flows.map((flow) => new Watched(flow));
   }
 
   /** Changes flows, which are then no longer like their twins. */
@@ -92,26 +106,38 @@ export class Experiment {
     if (this.watched.every(({ flow }) => flow.canTurn)) this.each(change);
   }
 
-  stroke(flow, piece) {
-    const stroke = this.strokes.get(flow) ?? new Stroke();
-    this.strokes.set(flow, stroke);
-    stroke.add(flow, piece);
+  stroke(piece) {
+    this.each((flow) => {
+      const stroke = this.strokes.get(flow) ?? new Stroke();
+      this.strokes.set(flow, stroke);
+      stroke.add(flow, piece);
+      if (piece.end) stroke.tell(flow, piece.solid);
+    });
     if (!piece.end) return;
-    stroke.tell(flow, piece.solid);
-    this.strokes.delete(flow);
-    if (stroke.flips.size) this.past.push(() => stroke.undo(flow));
-    if (this.past.length > MOST_UNDO) this.past.splice(1, 1);
+    const strokes = [...this.strokes].filter(([, { flips }]) => flips.size);
+    if (strokes.length) this.did("stroke", () => strokes.forEach(([flow, stroke]) => stroke.undo(flow)));
+    this.strokes.clear();
   }
 
-  clear() {
-    this.each((flow) => {
-      const stroke = cleared(flow);
-      this.past.push(() => stroke.undo(flow));
+  /** Does something to all flows that returns what undoes it. @param {(flow: Flow) => () => void} act */
+  act(what, act) {
+    const undone = /** @type {(() => void)[]} */ ([]);
+    this.each((flow) => undone.push(act(flow)));
+    this.did(what, () => undone.forEach((undo) => undo()));
+  }
+
+  /** Turns one particle, and goes on beside it without this turn. */
+  flip(at) {
+    const undone = this.watched.flatMap((watched) => watched.flip(this.make, at) ?? []);
+    if (!undone.length) return;
+    this.did("turn", () => {
+      for (const watched of this.watched) watched.cone = null;
+      undone.forEach((undo) => undo());
     });
   }
 
   undo() {
     this.each(() => 0);
-    this.past.pop()?.();
+    this.past.pop()?.undo();
   }
 }

@@ -17,6 +17,7 @@ const RED_BLUE = [palette("053061 2166ac 4393c3 92c5de d1e5f0 f7f7f7 fddbc7 f4a5
 const ORANGE_PURPLE = [palette("2d004b 542788 8073ac b2abd2 d8daeb f7f7f7 fee0b6 fdb863 e08214 b35806 7f3b08"),
   palette("d8b8f5 a98bd6 7c62ad 513f78 2c2444 16161c 33220f 5e3d12 905f17 c68a2f ffc46b")];
 const ACROSS = 4; // of TimeMean.smooth
+const APART = 4, SAMPLES = 4000; // blocks of TimeMean.noise
 const fromZero = (most) => [0, most / 2, most];
 
 // The fields, by name: all that there is of each. `fill` writes the value of each block, NaN if it has none. `all` is the
@@ -161,6 +162,19 @@ export class TimeMean {
       u[i] = isEmpty ? NaN : (px[i] * east) / counts[i];
       v[i] = isEmpty ? NaN : (py[i] * north) / counts[i];
     }
+  }
+
+  /** The standard deviation of v, by blocks that are apart, so that an even flow adds nothing. Null if they are too few. */
+  get noise() {
+    const { v, columns } = this, step = Math.floor(v.length / SAMPLES) | 1;
+    let sum = 0, number = 0;
+    for (let i = APART; i < v.length - APART; i += step) {
+      const unlike = v[i - APART] - 2 * v[i] + v[i + APART];
+      if (unlike !== unlike) continue;
+      sum += unlike * unlike;
+      number++;
+    }
+    return number && columns > 4 * APART ? Math.sqrt(sum / 6 / number) : null;
   }
 
   /** What is shown of a field: a byte per block, 0 if it is solid, and the largest value of the colours. */

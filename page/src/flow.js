@@ -10,7 +10,8 @@ import { FINE, sumsOf, totalsOf } from "./sums.js";
 export class Flow {
   direction = 1; // -1 on the way back
   changes = 0; // counts what happens to the cells
-  isDisturbed = false; // something was changed on the way back
+  isDisturbed = false; // something was changed that the way back does not undo
+  isMessage = false; // a particle that is turned is not turned back
   late = new Set(); // strokes on the way back
   found = /** @type {number | null} */ (null); // cells that differ from the first ones, once the gas is back
   notes = /** @type {string[]} */ ([]); // what the page is to say
@@ -50,9 +51,9 @@ export class Flow {
     this.kernel = this.cells.kernel = copied(this.kernel, make);
   }
 
-  /** The rows of a block that is as high as wide. */
+  /** The rows of a block that is as high as wide, of the widest those of two others, so that these are gathered. */
   tall(wide) {
-    return Math.max(1, Math.round(wide / this.gas.apart));
+    return wide > 16 ? 2 * this.tall(wide / 2) : Math.max(1, Math.round(wide / this.gas.apart));
   }
 
   /** Sums of blocks, 1, 2, 4, 8, 16 or 32 columns wide, and by the way of all cells, if the blocks are few. */

@@ -24,7 +24,7 @@ export class Watched {
     this.velocity = new MeanVelocity(flow);
   }
 
-  /** Turns a particle. The gas without this turn goes on beside, to be compared. */
+  /** Turns a particle, and returns what undoes it. The gas without this turn goes on beside, to be compared. */
   flip(make, at) {
     const { kernel, chirality, seed, generation, drive, direction } = this.flow;
     if (direction > 0) {
@@ -32,7 +32,7 @@ export class Watched {
       this.twin.drive.random = drive.random;
       this.cone = at;
     }
-    flipOne(this.flow, at);
+    return flipOne(this.flow, at);
   }
 
   /** After a change that ended the comparison: another particle is turned at the same place, once time runs forwards. */
@@ -123,6 +123,7 @@ export class Watched {
       u: blown ?? (px * gas.units[0]) / all, force,
       v: (py * gas.units[1]) / all, wind: drive.wind,
       fastest, blockage, incoming, velocity: { columns, rows, width, height, u, v },
+      noise: mean.noise, unlike: this.twin && mean.unlike ? cells.differing(this.twin.kernel) : null,
       field: view.field, ...mean.shown(view.field), middle: mean.middle, columns: mean.columns, rows: mean.rows,
       block: mean.width, blockRows: mean.height, cells: view.window && this.windowed(view.window),
       walls, // solid cells as a plane, if they changed

@@ -1,8 +1,10 @@
 // Where one looks: at a part of the lattice, near or far.
+import { setControl } from "./address.js";
 import { repaint, screen, update } from "./screen.js";
 import { $, NEAR, amount, chosen, head, look, paneWidth, shown, view } from "./state.js";
 import { stripHeight } from "./strip.js";
 import { BLOCKS, SPANS } from "./table.js";
+import { go, isSlow } from "./time.js";
 import { tell } from "./wire.js";
 import { note } from "./words.js";
 
@@ -33,6 +35,17 @@ export function fit() {
 export function zoom(factor, from, to = from) {
   const { x, y, scale: old } = look.place, scale = Math.max(0.1, Math.min(200, old * factor));
   lookFrom({ scale, x: x + from.x / old - to.x / scale, y: y + from.y / old - to.y / scale });
+  paced(old);
+}
+
+/** Single cells that come in sight slow the pace, so that nothing flickers, and give it back when they go. */
+export function paced(before) {
+  const isNear = look.place.scale >= NEAR;
+  if (isNear === before >= NEAR || (isNear && isSlow())) return;
+  const pace = isNear ? "1 s" : $("pace").value === "1 s" && look.pace;
+  look.pace = isNear ? $("pace").value : "";
+  if (pace) setControl("pace", pace);
+  go(shown.isRunning);
 }
 
 export function closer(factor) {

@@ -12,8 +12,8 @@
  * @typedef {{ at: Place, radius: number }} Disc
  * @typedef {{ from: Place, to: Place, radius: number, solid: boolean, end?: boolean }} Piece a piece of a stroke
  * @typedef {{ gas: string, chirality: Chirality, width: number, height: number, filling: number, wind: number,
- *   keep: boolean, shape: string, radius: number, seed: string, lengths?: string, isDeveloped?: boolean }} Start
- *   `lengths` has the cells that are solid, or fluid, unlike in the shape
+ *   keep: boolean, shape: string, radius: number, seed: string, lengths?: string, isDeveloped?: boolean, text?: string }} Start
+ *   `lengths` has the cells that are solid, or fluid, unlike in the shape; `text` is a message
  * @typedef {[left: number, top: number, width: number, height: number]} Box
  * @typedef {{ field: string, block: number, smooth: number, span: number, window: Box | null }} View
  *   what is looked at: blocks of so many columns, how often smoothed, a mean over so many generations
@@ -33,11 +33,11 @@
 
 /**
  * What the worker says, by name. `serial` counts the starts, `asked` is the number of the last one that the page asked
- * for, `strokes` the pieces that came since the last frame. A scene that is refused changes nothing.
+ * for, `strokes` the pieces that came since the last frame, `undoes` says what undo takes back. A scene that is refused changes nothing.
  * @typedef {{
  *   engine: { fault: string, isProved: boolean },
  *   frames: { frames: Frame[], isRunning: boolean, serial: number, asked: number, state: string, strokes: number,
- *     canUndo: boolean, hashes?: string[] },
+ *     undoes: string, hashes?: string[] },
  *   files: { files: { text: string, name: string }[] }, hashes: { hashes: string[] },
  *   fault: { fault: string, isRefused: boolean },
  * }} Answers

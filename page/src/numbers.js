@@ -2,6 +2,7 @@
 import { GASES } from "./gases.js";
 
 const FEW = 100; // particles that are no fluid
+const RING = 40; // generations after which a burst is a ring
 export const MOST_MACH = 0.4; // above it the density follows the speed
 
 const signed = (text) => text.replace(/^-(?=.*[1-9])/, "−").replace("-", "");
@@ -25,6 +26,25 @@ export function viscosity({ share }, d, chirality) {
 const galilean = (directions, d) => ((directions / 12) * (1 - 2 * d)) / (1 - d);
 
 export const strouhal = (length, period, g, speed) => length / (period * g * speed);
+
+/**
+ * The speed at which the ring of a burst of this radius grows, where its filling falls to half outside of its crest. Null if
+ * there is none, or another field is shown. @param {Frame} frame @param {number} radius
+ */
+export function frontOf({ field, pixels, columns, rows, width, height, apart, block, blockRows, generation, direction }, radius) {
+  const sums = /** @type {number[][]} */ ([]), middle = [width / 2, ((height - 1) * apart) / 2], most = Math.min(...middle);
+  for (let i = 0; i < columns * rows; i++) {
+    const x = ((i % columns) + 0.5) * block - middle[0], y = (Math.floor(i / columns) + 0.5) * blockRows * apart - middle[1];
+    const ring = (sums[Math.round(Math.hypot(x, y) / block)] ??= [0, 0]);
+    ring[0] += pixels[i];
+    ring[1]++;
+  }
+  const means = Array.from(sums, (ring) => (ring ? ring[0] / ring[1] - 128 : 0)).slice(0, Math.floor(most / block));
+  const crest = means.indexOf(Math.max(...means)), half = means[crest] / 2, out = means.findIndex((mean, k) => k > crest && mean < half);
+  const isRing = generation > RING && generation < 1.2 * (most - radius); // before it meets a wall
+  if (field !== "density" || !isRing || out < 0 || direction < 0) return null;
+  return ((out - (half - means[out]) / (means[out - 1] - means[out])) * block - radius) / generation;
+}
 
 /**
  * What is known of a flow, in which numbers that a gas does not have are undefined. @param {number} length of Reynolds

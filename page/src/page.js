@@ -12,6 +12,7 @@ import { paintNumbers, said } from "./panel.js";
 import { listenToPointers } from "./pointer.js";
 import { repaint, screen, update } from "./screen.js";
 import { $, asked, chosen, element, head, look, marks, motion, shown, view } from "./state.js";
+import { stripHeight } from "./strip.js";
 import { tableOf } from "./table.js";
 import { take } from "./taken.js";
 import { setRunning } from "./time.js";
@@ -60,19 +61,25 @@ function seekEngine() {
 }
 
 function begin() {
-  const { hasLength, lengths, ...pending } = applyState(location.hash.slice(1));
+  const { isOlder, hasLength, lengths, ...pending } = applyState(location.hash.slice(1));
   Object.assign(asked, pending);
   start(hasLength, lengths);
+  if (isOlder) note("This link is older than the even force that keeps the wind now: its cells were other ones.", "", 9);
   if (location.hash === `#${OPENED}`) note("The scene of this address was opened from a file. No address has its cells: open it again.", "bad");
 }
 
 worker.onmessage = ({ data }) => answers[/** @type {keyof Answers} */ (data.name)](data.value);
 worker.onerror = ({ message }) => note(`A mistake in this page: ${message}`, "bad");
 screen.take = take;
-makeHelp($("help"), makeControls(tableOf(acts), update));
+makeHelp($("help").lastElementChild, makeControls(tableOf(acts), update));
 takeScenes((text) => tell("open", { text, state: OPENED }));
 listenToPointers();
-new ResizeObserver(() => shown.frames.length && (look.isWhole ? fit() : looked())).observe(view());
+new ResizeObserver(() => {
+  readTheme();
+  $("note").style.bottom = `${stripHeight(view().clientWidth) + 6}px`;
+  if (shown.frames.length) look.isWhole ? fit() : looked();
+}).observe(view());
+$("close").onclick = () => $($("all").hidden ? "helpAll" : "numbersAll").click();
 matchMedia("(prefers-color-scheme: dark)").onchange = () => {
   readTheme();
   repaint();
@@ -84,7 +91,6 @@ document.onfullscreenchange = () => {
 };
 window.onhashchange = () => isForeign() && begin();
 document.onvisibilitychange = repaint; // a hidden tab paints nothing, so the worker rests
-if (matchMedia("(pointer: coarse)").matches) chosen.tool = "draw";
 tell("engine", { text: $("kernel").textContent, isProved: false });
 begin();
 seekEngine();

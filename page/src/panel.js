@@ -1,6 +1,6 @@
-// The numbers: the three that matter, and all of them.
-import { MOST_MACH, count, fixed, numbersOf, round } from "./numbers.js";
-import { $, amount, each, element, head, setText, shown } from "./state.js";
+// The numbers: those that belong to a preset, and all of them.
+import { MOST_MACH, count, fixed, frontOf, numbersOf, round } from "./numbers.js";
+import { $, amount, each, element, head, preset, setText, shown } from "./state.js";
 
 /** What the page says of its kernel, and of the length of Re. */
 export const said = { engine: "", length: "" };
@@ -15,26 +15,38 @@ function speeds() {
 
 /** Of each picture once. */
 const of = (text) => each((frame) => text(numbersOf(frame, amount("length"))));
-const value = (number) => (number === undefined || number === null ? "–" : round(number));
+const value = (number, digits = 3) => (number === undefined || number === null ? "–" : round(number, digits));
+const any = (isSo) => shown.frames.some((frame) => isSo(numbersOf(frame, amount("length"))));
+const isFast = ({ fastestMach }) => fastestMach > MOST_MACH;
+const drag = ({ force, u }) => force === null ? "–" : value(force / u, 2);
+
+/** @type {Record<string, () => string[]>} what presets name: a text, and a name for it */
+const MAIN = {
+  reynolds: () => [of(({ reynolds }) => value(reynolds)), `Re${any((one) => one.isCorrelated) ? " at most" : ""}, L = ${amount("length")}`],
+  mach: () => [of((one) => one.fastestMach.toFixed(2)), `Mach, ${any(isFast) ? "too fast" : "fastest"}`],
+  u: () => [each(({ u }) => fixed(u, 3)), "mean u"],
+  drag: () => [each(drag), "force / u"],
+  noise: () => [each(({ noise }) => value(noise, 2)), "noise of v"],
+  front: () => [each((frame) => value(frontOf(frame, amount("radius")), 2)), "speed of the front"],
+  particles: () => [each(({ particles }) => count(particles)), "particles"],
+  found: () => [each(({ found }) => (found === null ? "–" : count(found))), `of ${count(head().width * head().height)} cells differ`],
+  unlike: () => [each(({ unlike }) => (unlike === null ? "–" : count(unlike))), "cells differ"],
+};
 
 export function paintNumbers() {
   if (!shown.frames.length) return;
-  const { direction, generation } = head(), length = amount("length"), isBack = direction < 0;
-  const numbers = shown.frames.map((frame) => numbersOf(frame, length));
-  const isFast = numbers.some(({ fastestMach }) => fastestMach > MOST_MACH);
-  const isHigh = numbers.some(({ isCorrelated }) => isCorrelated);
-  const rows = [
-    [count(generation), isBack ? "generation, back" : "generation", isBack ? "back" : ""],
-    [of(({ reynolds }) => value(reynolds)), `Re${isHigh ? " at most" : ""}, L = ${length}`, ""],
-    [of((one) => one.fastestMach.toFixed(2)), isFast ? "Mach: too fast" : "Mach, fastest", isFast ? "warns" : ""],
-  ];
-  rows.forEach(([text, name, kind], k) => {
-    const box = $("numbers").children[k];
-    box.className = kind;
+  const { direction, generation } = head(), isBack = direction < 0, own = shown.isOpened ? ["particles", "u"] : preset().numbers;
+  const rows = [[count(generation), isBack ? "generation, back" : "generation"], ...own.map((name) => MAIN[name]())];
+  const warnings = new Set(shown.frames.flatMap((frame) => numbersOf(frame, amount("length")).warnings));
+  [...$("numbers").children].forEach((box, k) => {
+    const [text, name] = rows[k] ?? ["", ""];
+    box.className = k === 0 && isBack ? "back" : "";
+    box.hidden = k >= rows.length;
+    box.title = k ? [...warnings].join(" ") : "";
     setText(box.children[0], text);
     setText(box.children[1], name);
   });
-  if (!$("all").hidden) paintAll(new Set(numbers.flatMap(({ warnings }) => warnings)));
+  if (!$("all").hidden) paintAll(warnings);
 }
 
 function paintAll(warnings) {
@@ -47,6 +59,7 @@ function paintAll(warnings) {
     "mean u, cells per generation": each(({ u }) => fixed(u, 3)),
     "mean v": each(({ v }) => fixed(v, 3)),
     "force per fluid cell and generation": each(({ force }) => value(force)),
+    "noise of v from block to block": each(({ noise }) => value(noise)),
     "speed of the fastest block": each(({ fastest }) => fixed(fastest, 3)),
     "Mach of the fastest block": of(({ fastestMach }) => fastestMach.toFixed(2)),
     "Mach of the mean": of(({ mach }) => mach.toFixed(2)),
@@ -60,6 +73,6 @@ function paintAll(warnings) {
   });
   const hash = shown.hashes.length ? `SHA-256 of what fhpgas run prints: ${shown.hashes.join(" | ")}` : "";
   const words = [...warnings, `L is ${said.length}.`, wind === null ? "The wind decays." : kept, said.engine, hash];
-  $("all").replaceChildren(...rows.flatMap(([name, text]) => [element("dt", {}, name), element("dd", {}, text)]),
+  $("all").lastElementChild.replaceChildren(...rows.flatMap(([name, text]) => [element("dt", {}, name), element("dd", {}, text)]),
     ...words.filter(Boolean).map((text) => element("dd", { class: "wide" }, text)));
 }

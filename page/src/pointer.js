@@ -1,4 +1,5 @@
 // Mouse and fingers on the picture: one draws or moves, two zoom. Keys do the same.
+import { space } from "./controls.js";
 import { zoom } from "./look.js";
 import { repaint } from "./screen.js";
 import { GAP, $, amount, chosen, look, marks, paneWidth, shown, view } from "./state.js";
@@ -72,7 +73,8 @@ export function listenToPointers() {
     }
     hideNotes();
     const at = placeOf(pointOf(event));
-    gesture.isMoving = chosen.tool === "move" || event.button > 0;
+    space.isUsed = space.isDown;
+    gesture.isMoving = chosen.tool === "move" || event.button > 0 || space.isDown;
     if (gesture.isMoving) return;
     if (chosen.tool !== "draw" && chosen.tool !== "erase") return use(at);
     Object.assign(gesture, { stroke: at, isDrawn: false, begun: pointOf(event) });
@@ -97,13 +99,13 @@ export function listenToPointers() {
     event.preventDefault();
     if (shown.frames.length) zoom(Math.exp(-event.deltaY / 400), pointOf(event));
   }, { passive: false });
-  // arrows move the picture, or a mark at which Space or Enter use the tool
+  // arrows move the picture, or once a tool was chosen a mark at which Space or Enter use it
   canvas.onkeydown = ({ key, shiftKey }) => {
     const [x, y] = ARROWS[key] ?? [0, 0], far = shiftKey ? 4 : 24, { scale } = look.place;
     const middle = { x: paneWidth(canvas.clientWidth) / 2, y: canvas.clientHeight / 3 };
     if (!shown.frames.length || (!(x || y) && key !== " " && key !== "Enter")) return;
     const [east, south] = marks.cursor?.at ?? placeOf(middle), isStroke = chosen.tool === "draw" || chosen.tool === "erase";
-    if (chosen.tool === "move") return zoom(1, { x: far * x, y: far * y }, { x: 0, y: 0 });
+    if (chosen.tool === "move" || (!chosen.isTool && (x || y))) return zoom(1, { x: far * x, y: far * y }, { x: 0, y: 0 });
     marks.cursor = { at: [east + (x * far) / scale, south + (y * far) / scale], radius: amount("brush") };
     if (x || y) repaint();
     else if (isStroke) draw(marks.cursor.at, true);

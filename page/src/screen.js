@@ -57,8 +57,8 @@ function paintPane(c, k, wide, bottom, moment) {
     paintLattice(c, frame, scale, panes[k], $("tracers").checked, moment);
   });
   if (shown.frames.length === 1) return;
-  const [across, down] = [left + Math.max(0, -x * scale) + 10, Math.max(0, (-frame.apart / 2 - y) * scale) + 28];
-  write(c, preset().captions[k] ?? "", across, down, { font: wide < 300 ? "600 14px" : "600 19px" });
+  const size = theme.unit * (wide < 300 ? 14 : 19), [across, down] = [Math.max(0, -x * scale) + 10, Math.max(0, (-frame.apart / 2 - y) * scale)];
+  write(c, preset().captions[k] ?? "", left + across, down + 1.5 * size, { font: `600 ${size}px`, most: wide - across });
 }
 
 /** A frame is on the screen: the worker may send the next. */

@@ -3,6 +3,7 @@ import { fillDeveloped, meansOf } from "./developed.js";
 import { Flow } from "./flow.js";
 import { GASES, SOLID, eastOf, equilibrium } from "./gases.js";
 import { bitsOf } from "./lengths.js";
+import { isInText } from "./message.js";
 import { fillStates } from "./scenes.js";
 import { dense } from "./tools.js";
 
@@ -13,8 +14,7 @@ const SOLIDS = {
   discs: (W, T, R) => (x, y) => (x - W / 5) ** 2 + (Math.abs(y - T / 2) - 1.7 * R) ** 2 <= R * R,
 };
 const PARTICLES = { pair: 0x09, triple: 0x15 };
-const isInL = (W, T, wide = 0.06 * Math.max(W, T)) => (x, y) =>
-  x > 0.4 * W && x < 0.6 * W && y > 0.2 * T && y < 0.8 * T && (x < 0.4 * W + wide || y > 0.8 * T - wide);
+const DISSOLVED = 3000; // generations after which a text is noise
 
 /** Puts grains of a radius anywhere until three tenths are solid. */
 function putGrains({ drive, cells }, states, tall, radius) {
@@ -29,7 +29,8 @@ function putGrains({ drive, cells }, states, tall, radius) {
 }
 
 export function drawn(make, start) {
-  const { gas: name, chirality, width, height, filling, wind, keep, shape, radius, seed, lengths = "", isDeveloped } = start;
+  const { gas: name, chirality, width, height, filling, wind, keep, shape, radius, seed, isDeveloped } = start;
+  const { lengths = "", text = "" } = start;
   const gas = GASES[name], tall = (height - 1) * gas.apart, states = new Uint8Array(width * height);
   const flow = new Flow(make(gas, width, height), { chirality, seed, generation: 0, wind: keep ? wind : null });
   const all = (isInside, change) => {
@@ -50,13 +51,15 @@ export function drawn(make, start) {
   if (shape in PARTICLES) states[width + 1] = PARTICLES[shape];
   else if (developed) fillDeveloped(flow, states, developed);
   else fillStates(gas, states, seed, rates(filling, wind));
-  if (shape === "letter") {
+  if (shape === "text") {
     const inner = fillStates(gas, states.slice(), BigInt(seed) + 1n, rates(0.6));
-    all(isInL(width, tall), (at) => (states[at] = inner[at]));
+    all(isInText(text, width, tall), (at) => (states[at] = inner[at]));
   }
   flow.cells.fill(states);
   if (shape === "sound") dense(flow, { at: [width / 2, tall / 2], radius });
   flow.begin();
+  flow.isMessage = shape === "text";
+  if (flow.isMessage) flow.advance(DISSOLVED);
   flow.notes = states.every((state) => state === SOLID) ? ["All cells are solid: choose more cells, or a smaller obstacle."]
     : isDeveloped && !developed ? ["No such flow is kept as it is once developed, so this one begins fresh."] : [];
   return flow;

@@ -11,16 +11,17 @@ export const shown = {
   serial: 0,
   isRunning: false,
   isOpened: false, // a scene
-  canUndo: false,
+  undoes: "", // what undo takes back
   hashes: /** @type {string[]} */ ([]),
   times: /** @type {[time: number, generation: number][]} */ ([]), // when frames were painted
   painted: 0,
 };
 
-/** Where one looks: the place at the upper left, and pixels per cell. What was sent of it. */
-export const look = { place: { x: 0, y: 0, scale: 0 }, isWhole: true, sent: "" };
+/** Where one looks: the place at the upper left, and pixels per cell. What was sent of it. The pace before single cells. */
+export const look = { place: { x: 0, y: 0, scale: 0 }, isWhole: true, sent: "", pace: "" };
 
-export const chosen = { preset: "", field: "vorticity", tool: "move" };
+/** `isTool` says whether the tool was chosen, so that arrows move a mark for it. */
+export const chosen = { preset: "", field: "vorticity", tool: "draw", isTool: false, text: "" };
 export const preset = () => PRESETS[chosen.preset];
 
 /** What was asked of the worker: starts, of which it may not have made the last, and what an address wants of it. */

@@ -1,13 +1,14 @@
 // The table of the controls: what each is called, its key, and what it does.
+import { hasText } from "./address.js";
 import { FIELDS } from "./fields.js";
 import { isFilming } from "./files.js";
 import { GASES } from "./gases.js";
 import { count } from "./numbers.js";
 import { PRESETS } from "./presets.js";
-import { $, chosen, head, preset, shown } from "./state.js";
+import { $, chosen, head, motion, preset, shown } from "./state.js";
 
 const SIZES = ["4 x 3", "64 x 32", "256 x 128", "256 x 256", "256 x 384", "512 x 192", "512 x 256", "512 x 512",
-  "512 x 768", "1024 x 384", "1024 x 512", "2048 x 512", "2048 x 1024", "3200 x 1016", "4096 x 1024"];
+  "512 x 768", "640 x 960", "1024 x 384", "1024 x 512", "2048 x 512", "2048 x 1024", "3200 x 1016", "4096 x 1024"];
 const PACES = ["3 s", "1 s", "0.3 s", "5/s", "15/s", "60/s", "300/s", "most"]; // of a generation, or generations in one
 const SIDES = [["left", "left"], ["right", "right"], ["seeded", "at random"]];
 export const BLOCKS = [[1, 0], [2, 0], [2, 2], [4, 2], [8, 2], [16, 2], [32, 2]]; // columns, and how often smoothed
@@ -15,6 +16,7 @@ export const SPANS = [1, 3, 10, 30, 100, 300, 1000, 3000, 10000, 30000];
 
 const hasCone = () => chosen.field === "difference" || preset().flips;
 const isBare = () => document.body.classList.contains("bare");
+const isWaiting = () => !shown.isRunning && preset().rests && head()?.generation === 0 && !motion.isOn;
 const isBack = () => head()?.direction < 0; // controls that would change the rules wait
 const cells = (value) => `${count(value)} cell${value > 1 ? "s" : ""}`;
 const wide = (value) => cells(BLOCKS[value][0] * (BLOCKS[value][1] ? 2 : 1));
@@ -33,7 +35,10 @@ const number = (key, id, label, attributes, more) => ({ key, id, label, kind: "n
 /** @param {Record<string, (value?: any) => void>} acts @returns {import("./controls.js").Group[]} */
 export const tableOf = (acts) => /** @type {any} */ ([
   { title: "", place: "first", controls: [
-    list("l", "scene", "scene", named(Object.keys(PRESETS), String), acts.preset)] },
+    list("l", "scene", "scene", named(Object.keys(PRESETS), String), acts.preset),
+    { key: "F8", id: "text", label: "text", kind: "text", act: acts.write, isHidden: () => !hasText(),
+      attributes: { placeholder: "your own text", maxlength: 300, autocomplete: "off", spellcheck: "false" } },
+    button("F9", "send", "Copy link", acts.link, { isHidden: () => !hasText() })] },
   { title: "A new start", place: "panel", controls: [
     list("k", "size", "cells", named(SIZES, (size) => size.replace("x", "×")), acts.start),
     slider("f", "fill", "filling d", [0.05, 0.45, 0.01], acts.start, String, { isLate: true }),
@@ -47,7 +52,7 @@ export const tableOf = (acts) => /** @type {any} */ ([
     list("c", "chirality", "pairs turn", SIDES, acts.chirality, { isOff: isBack }),
     check("j", "keep", "keep wind", acts.keep, { isOff: isBack }),
     slider("w", "wind", "wind u", [0, 0.4, 0.02], acts.wind, String, { isOff: isBack }),
-    half("Backspace", "undo", "undo", acts.undo, { isOff: () => !shown.canUndo }),
+    half("Backspace", "undo", "undo", acts.undo, { isOff: () => !shown.undoes, text: () => `undo ${shown.undoes}` }),
     half("4", "clear", "clear", acts.clear)] },
   { title: "See", place: "panel", controls: [
     ...Object.entries(FIELDS).map(([id, { key, label }]) =>
@@ -77,7 +82,7 @@ export const tableOf = (acts) => /** @type {any} */ ([
     button("=", "numbersAll", "all numbers", acts.numbers, { style: "full", isPressed: () => !$("all").hidden })] },
   { title: "", place: "transport", controls: [
     button("ArrowLeft", "back", "1 back", acts.back),
-    button(" ", "play", "Run", acts.play, { style: "main", text: () => (shown.isRunning ? "Pause" : "Run") }),
+    button(" ", "play", "Run", acts.play, { style: "main", text: () => (shown.isRunning ? "Pause" : "Run"), isWaiting }),
     button("ArrowRight", "step", "1 on", acts.step),
     button("h", "half", "half a step", acts.half),
     list(".", "pace", "pace", named(PACES, paceText), acts.pace),

@@ -1,19 +1,20 @@
 // What the worker sent is taken: the next frame, perhaps of flows that begin.
-import { OPENED, applyState, setControl, showOpened, stateText } from "./address.js";
+import { start } from "./acts.js";
+import { OPENED, applyState, hasText, setControl, showOpened, stateText } from "./address.js";
 import { fit, lookAsAsked } from "./look.js";
 import { count } from "./numbers.js";
 import { wallsOf } from "./picture.js";
 import { setProbe } from "./pointer.js";
 import { panes, screen } from "./screen.js";
-import { asked, head, marks, motion, shown } from "./state.js";
+import { asked, element, head, marks, motion, shown } from "./state.js";
 import { isSlow, move, setRunning } from "./time.js";
 import { hideNotes, introduce, note } from "./words.js";
 
-export function take({ frames, serial, asked: number, canUndo, isRunning, strokes, state, hashes = [] }) {
+export function take({ frames, serial, asked: number, undoes, isRunning, strokes, state, hashes = [] }) {
   const isNew = serial !== shown.serial, before = isNew ? null : head(), { generation, direction } = frames[0];
-  if (canUndo !== shown.canUndo || direction !== before?.direction) screen.toldAt = 0;
+  if (undoes !== shown.undoes || direction !== before?.direction) screen.toldAt = 0;
   const isMoved = generation !== before?.generation;
-  Object.assign(shown, { frames, serial, canUndo, hashes, isRunning: isSlow() ? shown.isRunning : isRunning });
+  Object.assign(shown, { frames, serial, undoes, hashes, isRunning: isSlow() ? shown.isRunning : isRunning });
   marks.pieces.splice(0, strokes);
   if (isNew) beginAnew(state, number < asked.starts);
   if (isMoved) Object.assign(motion, { phase: 0, isOn: false });
@@ -49,6 +50,10 @@ function tellReturn(before) {
   const whose = `${count(found)} of ${count(width * height)} cells differ from the cells of then.`;
   setRunning(false);
   note(`Back at generation ${count(generation)}: ${whose}`, found ? "bad" : "good");
+  if (shown.isOpened || !hasText()) return;
+  const again = element("button", { id: "again" }, "Back to the noise");
+  again.onclick = () => start();
+  note(found ? "That is what one turn does." : "Now turn one particle (t), and try again.", "").append(again);
 }
 
 /** The flows of a state are there, perhaps late, because the controls have asked for others meanwhile. */

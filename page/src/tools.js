@@ -56,41 +56,59 @@ export class Stroke {
   }
 }
 
+/** Takes all obstacles away, and returns what undoes it. */
 export function cleared(flow) {
   const stroke = new Stroke(), all = Array.from({ length: flow.cells.number }, (_, at) => at);
   stroke.set(flow, all, false);
   stroke.tell(flow, false);
-  return stroke;
+  return () => stroke.undo(flow);
 }
 
-/** Fills a disc with particles that are taken at random from everywhere else: number and momentum of all stay. */
+/** What undoes an edit by flipping the same bits again, if nothing happened since. */
+function undoing(flow, flips, what, { changes, isDisturbed, mark }) {
+  const after = flow.changes;
+  return () => {
+    const isExact = flow.changes === after;
+    if (isExact) (flow.edit(flips), Object.assign(flow, { changes, isDisturbed, mark }));
+    flow.notes.push(isExact ? `The ${what} is undone.`
+      : `The particles have moved on since the ${what}: only time that runs back (r) undoes it.`);
+  };
+}
+
+/**
+ * Fills a disc with particles that are taken at random from everywhere else: number and momentum of all stay. Returns what
+ * undoes it.
+ */
 export function dense(flow, { at, radius }) {
-  const { cells, gas, drive } = flow, inside = new Set(cells.near(at, at, radius));
-  const isIn = (place) => inside.has(place);
-  let moved = 0;
+  const { cells, gas, drive } = flow, before = { ...flow }, flips = /** @type {number[][]} */ ([]);
+  const inside = new Set(cells.near(at, at, radius)), isIn = (place) => inside.has(place);
   for (let i = 0; i < gas.directions; i++) {
     for (const to of inside) {
       if (cells.state(to) & (SOLID | 1 << i) || drive.draw() > 0.7) continue;
       const from = cells.pick(drive.draw, i, i, isIn);
       if (from === undefined) break;
-      flow.edit([[from, 1 << i], [to, 1 << i]]);
-      moved++;
+      flips.push([from, 1 << i], [to, 1 << i]);
+      flow.edit(flips.slice(-2));
     }
   }
-  flow.notes.push(`${count(moved)} particles went into the disc, and were taken from everywhere else.`);
+  flow.notes.push(`${count(flips.length / 2)} particles went into the disc, and were taken from everywhere else.`);
+  return undoing(flow, flips, "burst", before);
 }
 
-/** Turns the particle that is nearest to a place and has room. */
+/** Turns the particle that is nearest to a place and has room, and returns what undoes it. */
 export function flipOne(flow, place) {
   const { cells, turned } = flow;
   for (let radius = 1; radius < 20; radius++) {
     for (const at of cells.near(place, place, radius)) {
       const state = cells.state(at), free = state < SOLID ? state & ~turned[state] : 0, alone = free & -free;
       if (!alone) continue;
-      flow.edit([[at, alone | turned[alone]]]);
+      const before = { ...flow }, flips = [[at, alone | turned[alone]]];
+      flow.edit(flips);
+      flow.isDisturbed ||= flow.isMessage;
       flow.mark = { at: cells.placeOf(at), generation: flow.generation };
       const all = count(flow.totals()[1]), cell = `column ${at % cells.width}, row ${Math.floor(at / cells.width)}`;
-      return void flow.notes.push(`One of ${all} particles was turned: ${cell}.`);
+      flow.notes.push(`One of ${all} particles was turned: ${cell}.`);
+      return undoing(flow, flips, "turn", before);
     }
   }
   flow.notes.push("No particle there can be turned.");

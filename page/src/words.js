@@ -1,4 +1,4 @@
-// What the page says: what to look at, and notes over it.
+// What the page says: what to look at, and notes at the picture's lower edge.
 import { said } from "./panel.js";
 import { $, element, preset, setWords } from "./state.js";
 

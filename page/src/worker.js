@@ -1,7 +1,7 @@
 // The worker: takes the page's commands between generations, advances the gas and sends frames.
 import { Experiment } from "./experiment.js";
 import { printed, sceneOf } from "./scenes.js";
-import { dense } from "./tools.js";
+import { cleared, dense } from "./tools.js";
 
 const AHEAD = 2; // frames that are sent before one was painted
 const FULL = 25, SHARE = 3; // milliseconds of generations in a frame at full speed, and at least so many times its own
@@ -33,7 +33,7 @@ const actsOf = (work, experiment) => ({
   back: () => experiment.turn((flow) => flow.back()),
   turn: () => experiment.turn((flow) => flow.turn()),
   undo: () => experiment.undo(),
-  clear: () => experiment.clear(),
+  clear: () => experiment.act("clear", cleared),
   save: () => work.save(),
   seen: () => work.sent--,
   hash: ({ isWanted }) => (work.isHashWanted = isWanted),
@@ -43,10 +43,10 @@ const actsOf = (work, experiment) => ({
   keep: ({ wind }) => experiment.each((flow) => flow.isForward() && flow.drive.keep(wind)),
   stroke: (piece) => {
     work.pieces++;
-    experiment.each((flow) => experiment.stroke(flow, piece));
+    experiment.stroke(piece);
   },
-  dense: (disc) => experiment.each((flow) => dense(flow, disc)),
-  flip: ({ at }) => experiment.watched.forEach((watched) => watched.flip(experiment.make, at)),
+  dense: (disc) => experiment.act("burst", (flow) => dense(flow, disc)),
+  flip: ({ at }) => experiment.flip(at),
   probe: (disc) => experiment.watched.forEach((watched) => watched.probe(disc)),
 });
 
@@ -146,7 +146,7 @@ class Work {
     this.drawn = performance.now() - begun;
     this.generations = this.pieces = 0;
     this.sent++;
-    this.post("frames", { frames, isRunning, serial, asked, state, strokes, canUndo: past.length > 0 });
+    this.post("frames", { frames, isRunning, serial, asked, state, strokes, undoes: past[past.length - 1]?.what ?? "" });
     if (!isRunning && this.isHashWanted) this.hash();
   }
 

@@ -67,7 +67,11 @@ def begins(page):
         "each frame of the worker is painted or waits for its turn",
         page.now("sent === shown.painted + shown.queue.length"),
     )
-    check("the wind is kept", abs(page.now("head.u") - 0.14) < 0.02, page.now("head.u"))
+    check("the wind is kept", abs(page.now("head.u") - 0.28) < 0.02, page.now("head.u"))
+    found = page.now("[chosen.tool, $('sentence').textContent.slice(0, 12), notes.length]")
+    check(
+        "one draws into it, and nothing else is said", found == ["draw", "Draw into it", 0], found
+    )
     page.click("turn")
     page.wait("head.direction < 0 || head.found !== null")
     found = page.wait("head.found !== null && [head.found, head.generation]")
@@ -84,12 +88,12 @@ def begins(page):
     check("a shorter length changes Reynolds at once", abs(found[2] / found[0] - 0.5) < 0.01, found)
     untold = "controls.filter((e) => !e.title).map((e) => e.id)"
     check("every control says what it does", not page.now(untold), page.now(untold))
-    page.key("?")
-    check(
-        "and a list too",
-        "fhp-rest (FHP-II) has six and particles at rest" in page.now("$('help').innerText"),
-    )
-    page.key("?")
+    for close in lambda: page.key(Keys.ESCAPE), lambda: page.click("close"):
+        page.key("?")
+        told = page.now("$('help').innerText")
+        check("and a list too", "fhp-rest (FHP-II) has six and particles at rest" in told)
+        close()
+        check("which is closed", page.now("$('help').hidden && $('close').hidden"))
     page.key("=")
     check("a key opens all numbers", "force per fluid cell" in page.now("$('all').textContent"))
     page.key("=")
@@ -105,6 +109,10 @@ def edits(page):
     drawn = page.wait(f"solid > {solid} + 500 && solid")
     check(
         "an obstacle is drawn while it runs", "particles were beneath" in page.now("notes.at(-1)")
+    )
+    check(
+        "a button says what it undoes",
+        "undo stroke" in page.wait("shown.undoes && $('undo').textContent"),
     )
     page.click("undo")
     page.wait(f"solid === {solid}")
@@ -318,6 +326,9 @@ def keyboard(page):
         page.now("$('scene').value === 'vortex street' && $('film').textContent === 'filmv'"),
     )
     page.wait(f"shown.serial > {serial}")
+    time.sleep(1.1)  # longer than one types on
+    page.key("e")
+    check("and once it has changed, keys are the page's again", page.now("chosen.tool") == "erase")
     page.go(QUICK), page.js("view.focus()")
     solid = page.wait("head.generation > 5 && solid")
     page.key("d", Keys.ARROW_UP, Keys.SPACE)
@@ -339,11 +350,23 @@ def address(page):
     page.go(f"#{'&'.join(asked)}")
     told = page.now("notes.at(-1)")
     check("wrong addresses end in the default with a word", all(one in told for one in asked), told)
-    edges = "['note', 'scene', 'numbers'].map((id) => $(id).getBoundingClientRect()).flatMap(({ left, right }) => [left, right])"
-    left, right, _, first, last, _ = page.now(edges)
+    edges = "['note', 'view'].map((id) => $(id).getBoundingClientRect()).flatMap(({ top, bottom }) => [top, bottom])"
+    top, bottom, first, last = page.now(edges)
+    while top == bottom:  # a slow machine looked after the note had gone
+        page.go(f"#{'&'.join(asked)}")
+        top, bottom, first, last = page.now(edges)
     check(
-        "which covers the sentence only", first <= left < right <= last, (first, left, right, last)
+        "which lies below the picture's middle",
+        (first + last) / 2 < top < bottom < last,
+        (top, bottom, first, last),
     )
+    page.go("#scene=empty channel&wind=0.1"), page.wait("notes.length")
+    check(
+        "an address of another drive says so", "its cells were other ones" in page.now("notes[0]")
+    )
+    page.go("#scene=empty channel&wind=0.1&drive=2"), page.wait("head.generation > 20")
+    check("one of this drive says nothing", page.now("notes.length") == 0, page.now("notes"))
+    page.go("")
     check("which runs", page.wait("head.generation > 20 && location.hash.includes('seed=1&')"))
     page.go("#at=1e9 1 1"), page.wait("notes.at(-1)?.includes('past the lattice') && look.isWhole")
     page.choose("change", scene="porous medium"), page.wait("head.wind === 0.04")
@@ -440,29 +463,148 @@ def side(room):
     end(page, "phone on its side")
 
 
+MESSAGE = "#scene=a message in the noise&size=256 x 128&pace=most"
+
+
+# the mean of the field in the middle of the lattice, where an I is, less that beside it
+CONTRAST = (
+    "[[120, 136], [40, 80]].map(([first, last]) => { const { pixels, columns, rows, block } = head;"
+    " const found = [...pixels].filter((_, i) => i % columns >= first / block && i % columns < last / block"
+    " && Math.abs(Math.floor(i / columns) / rows - 0.5) < 0.25); return found.reduce((a, b) => a + b) / found.length; })"
+    ".reduce((a, b) => a - b)"
+)
+
+
+def message(room):
+    """Somebody writes a message, and others open its link in browsers of their own."""
+    page = Page(room, MESSAGE)
+    check("it rests, and is noise", page.now("!shown.isRunning && head.generation === 3000"))
+    page.js("$('text').value = 'x'.repeat(300)"), page.choose("change", text="x" * 300)
+    check(
+        "a long text is refused with a number",
+        "of them fit" in page.now("notes.at(-1)"),
+        page.now("notes"),
+    )
+    serial = page.now("shown.serial")
+    page.choose("change", text="i"), page.wait(f"shown.serial > {serial}")
+    link = page.wait(
+        "location.hash.includes('&text=') && head.generation === 3000 && location.hash"
+    )
+    check("its address does not show the text", "text=i" not in link.lower(), link)
+    page.click("send"), page.wait("notes.length > 1")
+    check("a button copies the link", "link" in page.now("notes.at(-1)"), page.now("notes"))
+    end(page, "who writes")
+    page = Page(room, link)
+    check(
+        "the reader does not see it", page.now("$('text').value === '' && head.generation === 3000")
+    )
+    check("nor in the noise", abs(page.now(CONTRAST)) < 25, page.now(CONTRAST))
+    page.click("turn")
+    found = page.wait("head.found !== null && [head.found, head.generation]")
+    check("it comes back", found == [0, 0], found)
+    check("and can be read", page.wait(f"{CONTRAST} > 60"))
+    told = page.now("[$('numbers').children[1].textContent, notes.at(-1)]")
+    check(
+        "0 cells differ, and one is to be turned",
+        told == ["0of 32,768 cells differ", "Now turn one particle (t), and try again."],
+        told,
+    )
+    page.click("again"), page.wait("head.generation === 3000 && head.found === null")
+    page.drag("flip", (60, 60)), page.click("turn")
+    check("with one turned it does not", page.wait("head.found !== null && head.found") > 1000)
+    check("and cannot be read", abs(page.now(CONTRAST)) < 25, page.now(CONTRAST))
+    page.go(f"{MESSAGE}&text=HELLO"), page.wait("notes.length")
+    check(
+        "a broken text is the default, and it is said",
+        "text=HELLO" in page.now("notes.at(-1)") and page.now("chosen.text") == "HELLO",
+    )
+    page.go("#scene=an L that comes back&size=256 x 128&runs=rs.5.3j.5")
+    found = page.wait("head.generation === 3000 && [$('scene').value, chosen.text, solid]")
+    check(
+        "an older address of the L opens it, with what was drawn",
+        found == ["a message in the noise", "L", 10],
+        found,
+    )
+    end(page, "who reads")
+
+
 def large(room):
-    page = Page(room, "#scene=an L that comes back", (1920, 1080))
-    check("it rests", page.now("!shown.isRunning && head.generation === 0"))
-    page.click("play"), page.wait("head.generation > 100")
+    page = Page(room, "#scene=sound ring", (1920, 1080))
+    check(
+        "it rests, and a button waits",
+        page.now(
+            "!shown.isRunning && head.generation === 0 && $('play').className.includes('waits')"
+        ),
+    )
+    page.click("play")
+    front = "$('numbers').children[1].textContent.match(/^0[.]7.( [|] 0[.]7.)?speed of the front$/)"
+    check("the front runs as fast as sound", page.wait(front))
     wide = page.now("$('play').clientWidth")
     page.pause()
     check("buttons keep their width", page.now("$('play').clientWidth") == wide)
+    check("letters follow the window", page.now("getComputedStyle($('sentence')).fontSize > '22'"))
     page.drag("draw", (200, 30), (230, 60))
     page.click("turn")
     check(
-        "the L comes back",
-        page.wait("head.found !== null && [head.found, head.generation]") == [0, 0],
+        "it comes back", page.wait("head.found !== null && [head.found, head.generation]") == [0, 0]
     )
     page.click("undo"), page.wait("notes.at(-1).startsWith('The way back has undone')")
     check("undo then draws nothing", page.now("head.fluid === head.width * head.height"))
-    page.choose("change", scene="HPP's knotted ring beside FHP's")
-    check(
-        "two gases have both their numbers",
-        page.wait(
-            "shown.frames.length === 2 && $('numbers').children[1].textContent.startsWith('–')"
-        ),
+    page.choose("change", scene="HPP's knotted ring beside FHP's"), page.wait(
+        "shown.frames.length === 2"
     )
+    page.click("play")
+    check("two gases have both their numbers", page.wait(front))
     end(page, "large")
+
+
+def moves(page):
+    """Middle button and space move the picture, single cells slow the pace, and give it back."""
+    page.go(QUICK)
+    solid, x = page.wait("head.generation > 5 && [solid, look.place.x]")
+    space = {"type": "keyDown", "key": " ", "code": "Space", "windowsVirtualKeyCode": 32}
+    mouse = {"x": 400, "y": 300, "button": "left", "clickCount": 1}
+    send = lambda name, **words: page.driver.execute_cdp_cmd(f"Input.dispatch{name}Event", words)
+    for button in "middle", "left":
+        if button == "left":
+            send("Key", **space)
+        send("Mouse", **mouse | {"type": "mousePressed", "button": button})
+        send("Mouse", **mouse | {"type": "mouseMoved", "x": 450, "button": button})
+        send("Mouse", **mouse | {"type": "mouseReleased", "x": 450, "button": button})
+        moved = page.wait(f"look.place.x !== {x} && look.place.x")
+        check(f"{button} button moves the picture", moved < x, (moved, x))
+        x = moved
+    send("Key", **space | {"type": "keyUp"})
+    check("nothing was drawn, and it still runs", page.now(f"solid === {solid} && shown.isRunning"))
+    page.key(Keys.SPACE), page.wait("!shown.isRunning")
+    page.key(Keys.SPACE), page.wait("shown.isRunning")
+    page.choose("change", pace="300/s")
+    for delta, pace in (-2400, "1 s"), (2400, "300/s"):
+        send("Mouse", **mouse | {"type": "mouseWheel", "deltaX": 0, "deltaY": delta})
+        check(f"the wheel sets the pace to {pace}", page.wait(f"$('pace').value === '{pace}'"))
+
+
+WINDOWS = (667, 375), (568, 320), (640, 400), (683, 350), (320, 480), (844, 390), (390, 844)
+BOXES = """
+const boxes = [...document.querySelectorAll('#scene, #text, #send, #sentence, #numbers div, #transport :is(button, select), main')]
+  .filter((e) => e.getClientRects().length).map((e) => [e.id || e.textContent || e.tagName, e.getBoundingClientRect()]);
+const out = boxes.filter(([, { left, right, top, bottom }]) => left < 0 || top < 0 || right > innerWidth + 0.5 || bottom > innerHeight + 0.5);
+const over = boxes.flatMap(([one, a], k) => boxes.slice(k + 1).filter(([, b]) => a.left < b.right - 0.5 && b.left < a.right - 0.5
+  && a.top < b.bottom - 0.5 && b.top < a.bottom - 0.5).map(([other]) => `${one} and ${other}`));
+const cut = [...document.querySelectorAll('#sentence, #numbers div')].filter((e) => e.scrollWidth > e.clientWidth + 1 || e.scrollHeight > e.clientHeight + 1);
+return [out.map(([name]) => name), over, cut.map((e) => e.textContent), ['scene', 'sentence'].filter((id) => !$(id).getClientRects().length)]
+"""
+
+
+def windows(page):
+    """Nothing lies on anything else in small windows, and nothing leaves them."""
+    for scene in "flow past a plate", "a message in the noise":
+        page.go(f"#scene={scene}&size=256 x 128&drive=2"), page.click("drawer")
+        for size in WINDOWS:
+            resize(page, *size)
+            page.wait("!screen.isScheduled || shown.isRunning")
+            check(f"{scene} at {size}", (found := page.js(BOXES)) == [[], [], [], []], found)
+    resize(page, 1300, 860)
 
 
 SELF_TEST = """
@@ -538,14 +680,14 @@ def desk(room):
         page.go(link)
         found = page.now("solid")
         check("the address keeps what was drawn", found == solid, (found, solid))
-    for part in seeded, cells, words, probe, keyboard, address, small:
+    for part in seeded, cells, words, probe, keyboard, address, moves, windows, small:
         tried(part, page)
     end(page, "desk")
 
 
 def main():
     with tempfile.TemporaryDirectory() as folder:
-        for part in desk, phone, side, large:
+        for part in desk, message, phone, side, large:
             tried(part, pathlib.Path(folder))
     with tempfile.TemporaryDirectory() as folder, contextlib.suppress(OSError):
         left_out = firefox(pathlib.Path(folder))

@@ -102,6 +102,15 @@ function scene(name) {
 }
 for (const name of readdirSync(`${root}scenes`).filter((file) => file.endsWith(".toml"))) tried(name, () => scene(name));
 
+// sizes of 2^32 cells or blocks, which 32 bits can't count, are refused before anything is read
+for (const [name, make] of Object.entries(kernels)) {
+  tried(`the largest size, ${name}`, () => {
+    const { calls, number } = make(ALL[0], 1, 1), words = (planes) => [0, planes * 2 ** 26].map(number), none = [0, 0].map(number), LENGTH = 7;
+    check(`unpack, ${name}`, calls.fhpgas_unpack(1, 65536, 65536, ...words(1), ...none) === LENGTH);
+    check(`sums, ${name}`, calls.fhpgas_sums(ALL[0].number, 65536, 65536, 1, 1, ...words(1), ...words(ALL[0].directions), ...none) === LENGTH);
+  });
+}
+
 // RFC 8439: the block of 2.3.2, and the test vectors 1 to 5 of appendix A.1
 const hex = (text) => Uint8Array.from(text.match(/../g), (two) => parseInt(two, 16));
 const zeros = (count) => "00".repeat(count);

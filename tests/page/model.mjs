@@ -8,6 +8,9 @@
 // Strouhal, its error           | the same; and waves of a known period
 // particles, fluid, u, v, force | the program's own sums of the same cells
 // filling                       | what the cells were filled with
+// noise of v                    | the binomial distribution of the particles of a block
+// front                         | a drawn ring whose edge is known, and the speed of sound
+// parabola, force over u        | Poiseuille's and Darcy's laws
 // fastest block, incoming, blocked part | a drawn flow whose speed is one, and the geometry of a disc
 // generation, differing cells   | counted here
 // updates, frames per second    | tests/page/browser.py, by the clock of the browser
@@ -19,7 +22,9 @@ import { Flow } from "../../page/src/flow.js";
 import { Experiment } from "../../page/src/experiment.js";
 import { Watched } from "../../page/src/frames.js";
 import { GASES, SOLID } from "../../page/src/gases.js";
-import { numbersOf, strouhal, viscosity } from "../../page/src/numbers.js";
+import { isInText, refusalOf, sealed, spelled, unsealed } from "../../page/src/message.js";
+import { frontOf, numbersOf, strouhal, viscosity } from "../../page/src/numbers.js";
+import { PRESETS } from "../../page/src/presets.js";
 import { periodOf } from "../../page/src/probe.js";
 import { readScene, sceneOf } from "../../page/src/scenes.js";
 import { drawn } from "../../page/src/starts.js";
@@ -114,8 +119,8 @@ function undoing(number) {
         if (isBack) passes(isCalm);
         else forwards[flow.generation] = solid();
       }
-    } else if (kind < 5) note(act(() => experiment.each((one) => experiment.stroke(one, { from: place(), to: place(), radius: 1 + random.below(3), solid: random.chance() < 0.6, end: true }))));
-    else if (kind === 5 && random.chance() < 0.5) note(act(() => experiment.clear()), true);
+    } else if (kind < 5) note(act(() => experiment.stroke({ from: place(), to: place(), radius: 1 + random.below(3), solid: random.chance() < 0.6, end: true })));
+    else if (kind === 5 && random.chance() < 0.5) note(act(() => experiment.act("clear", cleared)), true);
     else if (kind === 6) {
       const { direction, isDisturbed } = flow;
       experiment.turn((one) => one.turn());
@@ -145,7 +150,7 @@ tried("a way back that was cut", () => {
 
 // One particle turned on the way changes what comes back.
 tried("one particle turned on the way back", () => {
-  const flow = flowOf({ shape: "letter" });
+  const flow = flowOf({});
   flow.advance(200);
   flow.turn();
   flipOne(flow, [60, 30]);
@@ -183,21 +188,117 @@ tried("a cone begins anew", () => {
 
 // -- developed starts
 
-tried("a street that stands at once", () => {
-  const start = { ...DISC, width: 3200, height: 1016, wind: 0.3, radius: 80, seed: "2" };
+function standing(name, fitting) {
+  const { gases: [gas], shapes: [shape], size, fill: filling, chirality, wind, radius, keep } = { ...PRESETS[name], ...PRESETS[name][fitting] };
+  const [width, height] = size.split(" x ").map(Number), start = { gas, shape, chirality, width, height, filling, wind, radius, keep, seed: "2" };
   const behind = (isDeveloped) => {
-    const flow = flowOf({ ...start, isDeveloped }), { columns, numbers } = flow.sums(32, 36), { units: [, north] } = flow.gas, middle = 14 * columns;
-    near("its filling", flow.totals()[1] / flow.totals()[0] / 7, 0.18, 0.001);
-    near("its wind", flow.totals()[2] / 2 / flow.totals()[1], 0.3, 0.005);
-    return Array.from({ length: 40 }, (_, k) => 4 * (middle + 24 + k)).map((at) => (numbers[at + 3] * north) / numbers[at + 1]);
+    const flow = flowOf({ ...start, isDeveloped }), { columns, rows, numbers } = flow.sums(32, 36), { units: [, north] } = flow.gas;
+    near("its filling", flow.totals()[1] / flow.totals()[0] / 7, filling, 0.001);
+    near("its wind", flow.totals()[2] / 2 / flow.totals()[1], wind, 0.005);
+    check("its means are kept", flow.notes.length === 0, flow.notes);
+    const first = columns * Math.floor(rows / 2) + Math.ceil((width / 5 + radius) / 32), long = Math.min(40, Math.floor((columns * 3) / 5));
+    return Array.from({ length: long }, (_, k) => 4 * (first + k)).map((at) => (numbers[at + 3] * north) / numbers[at + 1]);
   };
-  const [vortices, even] = [behind(true), behind(false)].map((v) => [Math.min(...v), Math.max(...v)]);
-  check("gas flows across behind its disc, to both sides", vortices[0] < -0.1 && vortices[1] > 0.1, vortices);
-  check("and does not in a fresh start", even[0] > -0.07 && even[1] < 0.07, even);
-  check("a start without means says so", flowOf({ ...start, width: 64, height: 64, radius: 4, isDeveloped: true }).notes.length === 1);
+  const [vortices, even] = [behind(true), behind(false)].map((v) => [Math.min(...v), Math.max(...v)]), way = `${name}, ${fitting || "wide"}`;
+  check(`${way}: gas flows across behind it, to both sides`, vortices[0] < -0.1 && vortices[1] > 0.1, vortices);
+  check(`${way}: and does not in a fresh start`, even[0] > -0.07 && even[1] < 0.07, even);
+}
+for (const [name, fitting] of [["vortex street", ""], ["vortex street", "upright"], ["flow past a plate", ""], ["flow past a plate", "upright"], ["flow past a plate", "flat"]])
+  tried(`${name} stands at once`, () => standing(name, fitting));
+check("a start without means says so", flowOf({ ...DISC, isDeveloped: true }).notes.length === 1);
+
+// -- messages
+
+const channel = [512, 255 * Math.sqrt(0.75)], text = spelled("Hi, Zoë <3 100!");
+check("a text is spelled in the font", text === "HI, ZOE ♥ 100!" && refusalOf(text, ...channel) === "", text);
+check("an address keeps a text", unsealed(sealed(text)) === text);
+check("which nobody reads there", ![text, "HI", "100"].some((part) => sealed(text).includes(part)));
+const read = (isTurned) => {
+  const flow = flowOf({ shape: "text", text: "L" });
+  check("a message is noise at generation 3,000", flow.generation === 3000);
+  const undo = isTurned && flipOne(flow, [60, 30]);
+  if (isTurned > 1) undo();
+  flow.turn();
+  flow.advance(5000);
+  return [flow.generation, flow.found];
+};
+tried("a message that comes back", () => {
+  check("it comes back, also if a turn was undone", [0, 2].every((isTurned) => String(read(isTurned)) === "0,0"));
+  const [generation, found] = read(1);
+  check("with one particle turned first it does not", generation === 0 && found > 1000, found);
+});
+check("a broken text is none", [sealed(text).slice(0, -1), `${sealed(text)}A`, sealed(text).replace(/.$/, (sign) => (sign === "A" ? "B" : "A")), "", "AA", "HELLO"]
+  .every((letters) => unsealed(letters) === null));
+const [, most] = refusalOf("A".repeat(400), ...channel).match(/: (\d+) of them fit/).map(Number);
+check("a text that is too long is refused with the number that fits", ["A".repeat(most), "A".repeat(most + 1)].map((one) => refusalOf(one, ...channel) === "").join() === "true,false", most);
+check("a sign that the font does not have is refused", refusalOf("ж", ...channel).includes("ж"));
+const isIn = isInText("HELLO", 600, 300), places = Array.from({ length: 180_000 }, (_, at) => [at % 600, Math.floor(at / 600)]).filter((place) => isIn(...place));
+[["across", 0, 300], ["down", 1, 150]].forEach(([way, k, middle]) => {
+  const [low, high] = [Math.min, Math.max].map((of) => places.reduce((found, place) => of(found, place[k]), middle));
+  near(`a text is in the middle ${way}`, (low + high) / 2, middle, 2);
+});
+check("and fills a good part of it", places.length > 20_000 && places.length < 90_000, places.length);
+
+// -- undo
+
+tried("one history of all that was done", () => {
+  const experiment = Object.assign(new Experiment(), { make }), start = { ...FIRST, seed: "1" };
+  experiment.start({ starts: [start], state: "" });
+  const [{ flow }] = experiment.watched, kept = [], said = [];
+  flow.advance(20);
+  const acts = [() => experiment.stroke({ from: [30, 20], to: [40, 30], radius: 3, solid: true, end: true }), () => experiment.act("burst", (one) => dense(one, { at: [80, 30], radius: 6 })),
+    () => experiment.flip([20, 20]), () => experiment.act("clear", cleared)];
+  for (const act of acts) (kept.push(flow.cells.kept()), act());
+  experiment.start({ starts: [{ ...start, seed: "2" }], state: "" });
+  check("a new start is another lattice", experiment.watched[0].flow !== flow);
+  said.push(experiment.past.at(-1).what);
+  experiment.undo();
+  check("a start is undone", experiment.watched[0].flow === flow);
+  for (const cells of kept.reverse()) {
+    said.push(experiment.past.at(-1).what);
+    experiment.undo();
+    check(`${said.at(-1)} is undone to the last cell`, flow.cells.differing(cells) === 0, flow.cells.differing(cells));
+  }
+  check("the last thing is undone first", said.join() === "start,clear,turn,burst,stroke" && !experiment.past.length, said);
+  experiment.act("burst", (one) => dense(one, { at: [80, 30], radius: 6 }));
+  flow.advance(1);
+  const before = flow.cells.kept();
+  experiment.undo();
+  check("a burst that has moved on stays, and it is said", flow.cells.differing(before) === 0 && flow.notes.at(-1).includes("moved on"), flow.notes.at(-1));
 });
 
 // -- the drive
+
+// u over its mean in eight parts from wall to middle, and the parabola's means over the same parts
+const PARTS = 16, parabola = Array.from({ length: PARTS / 2 }, (_, k) => [k, k + 1].map((at) => at / PARTS).map((y) => PARTS * y * y * (3 - 2 * y))).map(([low, high]) => high - low);
+function profile(wind, generations) {
+  const flow = flowOf({ ...DISC, wind, shape: "none" }), [particles, east] = [new Float64Array(PARTS), new Float64Array(PARTS)];
+  flow.advance(6000);
+  for (let g = 0; g < generations; g += 20) {
+    flow.advance(20);
+    const { columns, numbers } = flow.sums(32, 128 / PARTS);
+    for (let at = 0; at < numbers.length; at += 4) {
+      const row = Math.floor(at / 4 / columns);
+      particles[row] += numbers[at + 1];
+      east[row] += numbers[at + 2];
+    }
+  }
+  const u = parabola.map((_, k) => east[k] / particles[k] + east[PARTS - 1 - k] / particles[PARTS - 1 - k]), mean = u.reduce((a, b) => a + b) / u.length;
+  u.forEach((one, k) => near(`u over its mean at wind ${wind} in part ${k + 1} of 8 from the wall`, one / mean, parabola[k], 0.03));
+}
+for (const [wind, generations] of [[0.14, 40_000], [0.04, 300_000]]) tried(`a channel at wind ${wind}`, () => profile(wind, generations));
+
+tried("Darcy's law", () => {
+  const drags = [0.02, 0.04].map((wind) => ["1", "2", "3", "4"].reduce((sum, seed) => {
+    const flow = flowOf({ width: 512, height: 256, filling: 0.3, wind, keep: true, shape: "porous", radius: 8, seed }), found = { force: 0, u: 0 };
+    for (let g = 0; g < 5000; g += 1000) { // the drive's means are of the last 1,000 generations
+      flow.advance(1000);
+      if (g >= 1000) Object.assign(found, { force: found.force + flow.drive.force.found, u: found.u + flow.drive.velocity.found });
+    }
+    return sum + found.force / found.u / 4;
+  }, 0));
+  check("force over u at winds 0.02 and 0.04 differs by less than 8 per cent", Math.abs(drags[0] / drags[1] - 1) < 0.08, drags);
+});
 
 const porous = { width: 256, height: 128, wind: 0.1, keep: true, shape: "porous", radius: 6, seed: "1" };
 const atPace = (pace) => {
@@ -218,6 +319,22 @@ tried("the wind after the way back", () => {
   flow.drive.keep(0.2);
   [0, 1].forEach((turn) => (turn && flow.turn(), flow.advance(300)));
   check("back at the start u is that of its cells", flow.generation === 0 && flow.direction === 1 && frameOf(flow, 0).u === u, u);
+});
+tried("the noise", () => {
+  const flow = flowOf({ gas: "fhp-rest", width: 1024, height: 288, filling: 0.18 });
+  for (const [block, tall] of [[4, 5], [8, 9], [16, 18]]) {
+    const watched = new Watched(flow), { noise } = watched.frame({ field: "speed", block, smooth: 0, span: 1, window: null }, 1);
+    near(`the noise of blocks of ${block} columns`, noise / (Math.sqrt((3 * 0.18 * 0.82) / (block * tall)) / (7 * 0.18)), 1, 0.06);
+  }
+});
+tried("the front", () => {
+  const ring = { field: "density", columns: 100, rows: 100, width: 400, height: 400, apart: 1, block: 4, blockRows: 4, generation: 100, direction: 1 };
+  const pixels = Uint8Array.from({ length: 10_000 }, (_, i) => 128 + 100 * Math.exp(-(((Math.hypot((i % 100) - 49.5, Math.floor(i / 100) - 49.5) * 4 - 80) / 15) ** 2)));
+  near("the front of a drawn ring", frontOf({ ...ring, pixels }, 20), (80 + 15 * Math.sqrt(Math.LN2) - 20) / 100, 0.02);
+  check("another field has none", frontOf({ ...ring, pixels, field: "speed" }, 20) === null);
+  const watched = new Watched(flowOf({ width: 512, height: 256, shape: "sound", radius: 22 }));
+  watched.advance(100);
+  near("a burst's front runs as fast as sound", frontOf(watched.frame({ field: "density", block: 4, smooth: 2, span: 1, window: null }, 100), 22), Math.SQRT1_2, 0.06);
 });
 near("ν of fhp1, seeded", viscosity(GASES.fhp1.fluid, 0.3, "seeded"), 1 / (12 * 0.3 * 0.7 ** 3) - 1 / 8, 1e-12);
 near("ν of fhp1, left", viscosity(GASES.fhp1.fluid, 0.3, "left"), 1 / (16 * 0.3 * 0.7 ** 3) - 1 / 8, 1e-12);
@@ -307,7 +424,7 @@ const folder = mkdtempSync("/tmp/page-"), built = `${folder}/page.html`;
 const done = spawnSync("node", [`${root}page/build.mjs`, built], { encoding: "utf8" }), old = readFileSync(`${root}page/fhpgas.html`, "utf8");
 if (done.stderr.includes("this is not ")) console.log(`page/fhpgas.html is not compared with what its sources make: ${done.stderr}`);
 else check("page/fhpgas.html is what its sources make: run make page", done.status === 0 && old === readFileSync(built, "utf8"), done.stderr);
-check("page/fhpgas.html has at most 200 KB", Buffer.byteLength(old) <= 200 * 1024);
+check("page/fhpgas.html has at most 220 KB", Buffer.byteLength(old) <= 220_000, Buffer.byteLength(old));
 if (done.stderr.includes("stays as it was")) console.log(`its kernel was not built again: ${done.stderr}`);
 rmSync(folder, { recursive: true });
 const types = spawnSync("tsc", ["-p", `${root}page`], { encoding: "utf8" });
