@@ -12,6 +12,7 @@ for name in ("numpy", "scipy"):
         sys.exit(f"{sys.argv[0]} needs {name}, and this Python has none (Debian: python3-{name})")
 
 import fhpgas
+import numpy as np
 from fhpgas import fault, theory
 
 number, whole = fault.number, fault.whole  # types of options
@@ -51,7 +52,7 @@ class Options(fault.Parser):
 
     def fillings(self, small):
         tenths = [0.1, 0.2, 0.3, 0.4, 0.5]
-        self.option("--filling", number(0.05, 0.6), tenths, small, "fillings", metavar="D")
+        self.option("--filling", number(0.02, 0.6), tenths, small, "fillings", metavar="D")
 
     def chirality(self):
         sides = "seeded", "left", "right"
@@ -70,13 +71,24 @@ def runs(measured, asked):
 
 
 def compare(name, values, theory, digits=3):
-    """Prints the mean of some values and its standard error, and what theory says. Returns the mean
-    and the error."""
-    mean, error = fhpgas.mean_and_error(values)
+    """Prints what theory says beside the mean of some values and its error, which it returns."""
+    return show(name, *fhpgas.mean_and_error(values), theory, digits)
+
+
+def show(name, mean, error, theory, digits=3):
     shown = [round(float(n), digits) + 0.0 for n in (mean, error, theory)]  # -0.0 is printed as 0.0
     line = "{:34} measured {:8.{d}f} +- {:.{d}f}  theory {:8.{d}f}"
     print(line.format(name, *shown, d=digits), flush=True)
     return mean, error
+
+
+def jackknife(estimate, samples):
+    """An estimate from the mean of all samples, and its standard error, from the estimates without
+    one of them. A ratio with a noisy denominator is less biased so than its mean over samples."""
+    samples = np.array(samples)
+    number, total = len(samples), samples.sum(0)
+    without = [estimate(each) for each in (total - samples) / (number - 1)]
+    return estimate(total / number), np.sqrt((number - 1) * np.var(without, 0))
 
 
 @contextlib.contextmanager

@@ -55,8 +55,7 @@ def draw(path, asked, waves):
 
 
 def main():
-    figure = "the way of the waves, and g over the filling"
-    reader = common.Options(figure, common.FLUIDS, seeds=(8, 4))
+    reader = common.Options("the waves' way, and g over d", common.FLUIDS, seeds=(8, 4))
     reader.fillings([0.2, 0.5])
     speed, length = "the speed of the wind", f"the length of the wave, a multiple of {BLOCK}"
     reader.option("--wind", common.number(0.02, 0.3), 0.2, 0.2, speed, metavar="U")

@@ -4,8 +4,9 @@ odd viscosity of a chiral gas.
 
 `fhpgas.driven` turns particles, a force F on every cell, from west to east or along all directions
 (`--along`), which makes another slip. To the mean of the rows' velocities before and after the
-turnings a parabola u = F (zero^2 - y^2) / (2 b d viscosity) is fitted. In H rows it ends at zero^2
-= H^2 / 4 + K squared rows, with one slip K for every H. In a chiral gas a shear changes the density
+turnings, and of the seeds, a parabola u = F (zero^2 - y^2) / (2 b d viscosity) is fitted. In H rows
+it ends at zero^2 = H^2 / 4 + K squared rows, with one slip K for every H. Errors are a jackknife's
+over the seeds. In a chiral gas a shear changes the density
 by -b d odd viscosity / c^2 du/dy. Theory: the same with the noise-free Boltzmann equation.
 "Formula" is its stationary solution for a weak force in every generation (`fhpgas.theory.slip`)."""
 import common
@@ -15,7 +16,7 @@ from fhpgas import boltzmann, theory
 from fhpgas.gases import DRIVES
 
 SPAN = 8  # relaxation times, until the flow is steady
-NAMES = "viscosity", "slip K", "odd viscosity"
+NAMES = "viscosity", "slip K", "odd viscosity", "speed in the middle"
 
 
 class Channel:
@@ -37,16 +38,17 @@ class Channel:
         self.settled = self.every * int(SPAN * time / self.every)
         self.last = self.every * int(SPAN * (1 + asked.spans) * time / self.every)
 
-    def fits(self, flows, densities):
-        """The viscosity, the slip K and the odd viscosity, from the rows' velocities and
-        densities."""
+    def fits(self, means):
+        """What NAMES says, from the rows' velocities and densities."""
+        flows, densities = means
         bend, middle = np.polyfit(self.places**2, flows, 1)
         if bend >= 0 or middle <= 0:
             raise fhpgas.Fault("the flow is not fastest in the middle: take more cells or seeds")
         bent = bend / self.gas.row_distance**2
         rise = np.polyfit(self.gas.row_distance * self.places, densities, 1)[0]
         odd = -rise / self.mass * theory.sound_speed(self.gas) ** 2 / (2 * bent)
-        return -self.force / (2 * bent * self.mass), -middle / bend - self.rows**2 / 4, odd
+        viscosity, slip = -self.force / (2 * bent * self.mass), -middle / bend - self.rows**2 / 4
+        return viscosity, slip, odd, flows[(self.rows - 1) // 2 : self.rows // 2 + 1].mean()
 
     def measured(self, seed):
         flow = dict(gas=self.gas, chirality=self.chirality, seed=seed)
@@ -107,9 +109,9 @@ def main():
     asked, slips = reader.parse_args(), []
     for channel in (Channel(asked, rows) for rows in asked.height):
         profiles = common.runs(channel.measured, asked)
-        fits = zip(*(channel.fits(*each) for each in profiles))
-        columns = zip(NAMES, fits, channel.fits(*channel.predicted()))
-        found = [common.compare(f"{channel.rows} rows: {n}", *each) for n, *each in columns]
+        fits = common.jackknife(channel.fits, profiles)
+        columns = [*zip(NAMES, *fits, channel.fits(channel.predicted()), (3, 3, 3, 4))]
+        found = [common.show(f"{channel.rows} rows: {n}", *each) for n, *each in columns]
         slips.append(found[1])
     flow = asked.gas, asked.filling, asked.chirality
     formulas = theory.viscosity(*flow), theory.slip(*flow, asked.along), theory.odd_viscosity(*flow)

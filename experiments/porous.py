@@ -53,8 +53,7 @@ def medium(asked):
 
 
 def main():
-    figure = "the flux over the force, and the flow through the medium"
-    reader = common.Options(figure, common.FLUIDS, "fhp-rest", seeds=(8, 4))
+    reader = common.Options("the flux, and the flow", common.FLUIDS, "fhp-rest", seeds=(8, 4))
     reader.filling(0.1, 0.6, 0.2)
     reader.option("--width", common.whole(16, 4096), 128, 80, "columns")
     reader.option("--height", common.whole(16, 4096), 96, 32, "rows")

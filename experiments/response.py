@@ -5,9 +5,9 @@ closure.
 The directions of a gas without momentum are filled with d (1 + SHARE s), where s = 1 to the
 north-east and south-west, -1 to the north-west and south-east. By Green and Kubo the share of this
 stress that is left after t generations is C(t), and the viscosity (1/2 + C(1) + .. + C(t)) / 4. It
-is measured in the rows that the walls have not reached. Boltzmann's equation begins with the same
-chances. "Above it" is measured / Boltzmann - 1 in percent, "pairs" the same of the pair closure
-(`fhpgas.theory.pair_viscosity`). With `--triples` three particles at equal angles collide with this
+is measured in the rows that the walls have not reached, after EACH generations in every `--step`-th.
+Boltzmann's equation begins with the same chances. "Above it" is measured / Boltzmann
+- 1 in percent, "pairs" the same of the pair closure (`fhpgas.theory.pair_viscosity`). With `--triples` three particles at equal angles collide with this
 chance: the others are turned before the collision, which turns them back."""
 import common
 import fhpgas
@@ -15,7 +15,7 @@ import numpy as np
 from equilibrium import drawn
 from fhpgas import boltzmann, theory
 
-SHARE, SIZE = 0.3, 192  # SIZE of the pair closure
+SHARE, EACH = 0.3, 64
 
 
 class Stress:
@@ -25,6 +25,8 @@ class Stress:
         self.asked, self.gas, self.filling = asked, fhpgas.gas_named(asked.gas), filling
         self.of_direction = np.sign(self.gas.velocities.prod(1))
         self.until = max(asked.until)
+        late = range(EACH + asked.step, self.until, asked.step)
+        self.times = [*range(min(EACH, self.until - 1) + 1), *late, self.until]
 
     def chances(self, share):
         return self.filling + share * min(self.filling, 1 - self.filling) * self.of_direction
@@ -33,23 +35,24 @@ class Stress:
         until, found = self.until, []
         size = fhpgas.Size(self.asked.width, self.asked.height + 2 * until)
         lattice = drawn(self.gas, self.chances(SHARE), size, seed, self.asked.chirality)
-        lots = np.random.default_rng(seed)
-        for _ in range(until + 1):
+        lots = np.random.default_rng((seed, 1))  # no bits that the gas has
+        for time in self.times:
+            lattice = self.later(lattice, time - lattice.generation, lots)
             inner = lattice.states[until:-until]
             numbers = [np.count_nonzero(inner & 1 << i) for i in range(self.gas.directions)]
             found.append(self.of_direction @ numbers)
-            lattice = self.prepared(lattice, lots).run(1)
-        return theory.running_viscosity(found)
+        return theory.running_viscosity(np.interp(range(until + 1), self.times, found))
 
-    def prepared(self, lattice, lots):
-        """The lattice with those triples turned that must not collide."""
+    def later(self, lattice, generations, lots):
+        """A later lattice. Before each generation those triples turn that must not collide."""
         if self.asked.triples == 1:
-            return lattice
-        states = lattice.states.copy()
-        triples = np.flatnonzero(np.isin(states & 63, boltzmann.TRIPLES))
-        spared = triples[lots.random(len(triples)) >= self.asked.triples]
-        states.reshape(-1)[spared] ^= 63
-        return lattice.replace(states=states)
+            return lattice.run(generations)
+        for _ in range(generations):
+            states = lattice.states.copy()
+            triples = np.flatnonzero(np.isin(states & 63, boltzmann.TRIPLES))
+            states.reshape(-1)[triples[lots.random(len(triples)) >= self.asked.triples]] ^= 63
+            lattice = lattice.replace(states=states).run(1)
+        return lattice
 
     def predicted(self, share):
         """The viscosity of Boltzmann's equation that begins with this share."""
@@ -61,7 +64,7 @@ class Stress:
     def excess_of_pairs(self):
         """Percent by which the pair closure exceeds Boltzmann's equation, for a weak stress."""
         flow = self.gas, self.filling, self.until, self.asked.chirality, self.asked.triples
-        found = theory.pair_viscosity(*flow, size=min(SIZE, 2 * self.until))
+        found = theory.pair_viscosity(*flow, size=self.asked.box or 2 * self.until)
         return 100 * (found / self.predicted(1e-4) - 1)
 
 
@@ -82,11 +85,15 @@ def main():
     reader.chirality()
     reader.fillings([0.3])
     text = "generations up to which it is summed, one or more"
-    reader.option("--until", common.whole(4, 1000), [60], [20], text, metavar="T")
+    reader.option("--until", common.whole(4, 2000), [60], [20], text, metavar="T")
     text = "the chance that three particles at equal angles collide"
     reader.option("--triples", common.number(0, 1), 1.0, 1.0, text, metavar="P")
     reader.option("--width", common.whole(16, 65536), 2048, 1024, "columns")
     reader.option("--height", common.whole(16, 65536), 1024, 512, "rows without those near walls")
+    after = f"generations from sample to sample after the first {EACH}"
+    reader.option("--step", common.whole(1, 100), 1, 1, after, metavar="N")
+    text = "cells across the box of the pair closure, 0: twice the largest T"
+    reader.option("--box", common.whole(0, 2048), 0, 0, text)
     asked, found = reader.parse_args(), []
     print(f"{asked.gas} {asked.chirality}, triples {asked.triples:g}")
     print("   d until   measured         Boltzmann  above it       pairs", flush=True)

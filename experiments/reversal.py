@@ -48,8 +48,7 @@ def draw(path, shown, growth):
 
 
 def main():
-    figure = "the density of the four states, and the growth of a difference"
-    reader = common.Options(figure, common.GASES)
+    reader = common.Options("the four states, and the growth of a difference", common.GASES)
     reader.option("--size", common.whole(40, 2048), 256, 64, "columns and rows")
     reader.option("--generations", common.whole(1, 10_000), 200, 60, "each way")
     asked = reader.parse_args()

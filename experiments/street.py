@@ -64,10 +64,8 @@ class Street:
         """The mean heights, in radii, of the clockwise and the counter-clockwise vortices so far
         behind the disc."""
         inner, near = abs(self.y) < 1.5, abs(self.x - behind) < 0.25
-        return [
-            2 * np.average(self.y[inner], weights=field[inner][:, near].sum(1))
-            for field in self.fields[1:]
-        ]
+        weights = (field[inner][:, near].sum(1) for field in self.fields[1:])
+        return [2 * np.average(self.y[inner], weights=each) for each in weights]
 
 
 def report(street, times):

@@ -55,9 +55,8 @@ def draw(path, waves, title):
             mean, error = fhpgas.mean_and_error(runs)
             line = np.polyval(np.polyfit(wave.times, mean, 1), wave.times)
             name = f"d = {wave.filling}, {wave.rows} rows: viscosity {wave.viscosity(mean):.3f}"
-            above.errorbar(
-                wave.times, np.exp(mean), np.exp(mean) * error, fmt=f"C{n}o", ms=3, label=name
-            )
+            points = np.exp(mean), np.exp(mean) * error
+            above.errorbar(wave.times, *points, fmt=f"C{n}o", ms=3, label=name)
             above.semilogy(wave.times, np.exp(line), f"C{n}", lw=1)
             below.errorbar(wave.times, mean - line, error, fmt=f"C{n}o-", ms=3, lw=0.7)
         above.set(ylabel="amplitude / amplitude at 0", title=f"shear waves, {title}")

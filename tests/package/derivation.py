@@ -236,6 +236,46 @@ def pairs(d):
         is_close(correlated, 0)
 
 
+def lines(d):
+    """9. The difference of the two directions of a line fades and spreads, on both checkerboards,
+    holds more of both directions, and the law of C(t), which the pair closure has and `fhp-rest`
+    has not."""
+    lam, m = share(d), staggered_share(d)
+    spread, k = 3 / (2 * lam) - 1 / 2, 0.05 * lam
+    waves = np.array([(edge + k, q) for edge in (0, np.pi) for q in (1.0, 2.0, 2.9)])
+    factors = np.linalg.eigvals(boltzmann.generation_matrix("fhp1", d, waves, "seeded"))
+    sign = np.repeat([1, -1], 3)[:, None]
+    rates = -np.log(abs(np.take_along_axis(factors, abs(factors - sign).argmin(1)[:, None], 1)))
+    is_close(rates / (m / 3 + spread * k**2), 1, 5 * lam)
+    h, a = np.log(1 / d - 1), 1e-3
+    east, west = 1 / (1 + np.exp(h - a)), 1 / (1 + np.exp(h + a))
+    more = (1 - 2 * d) / (4 * d * (1 - d))
+    is_close((east + west - 2 * d) / (east - west) ** 2 / more, 1, 1e-4)
+    chances = np.full((6, 1, 1), d)
+    chances[[0, 3], 0, 0] = east, west
+    flow = boltzmann.Flow("fhp1", np.zeros((2, 1)), has_walls=False)
+    change = (flow.collided(chances) - chances).ravel()
+    is_close(change[:3] + change[3:], 0, 1e-15)
+    times, steps = np.array([40, 60]), np.linspace(0, 2000, 400_001)[1:]
+    law = (
+        lambda t: np.exp(-2 * m * t / 3)
+        / np.sqrt(8 * np.pi * spread * t)
+        * 8
+        * d
+        * (1 - d)
+        * more**2
+    )
+    whole = (1 - 2 * d) ** 2 / (8 * d * (1 - d)) * np.sqrt(3 / (16 * spread * m))
+    roots = 2 * steps * (steps[1] - steps[0])  # t = steps^2, without the root at 0
+    is_close((law(steps**2) * roots).sum() / 4 / whole, 1, 1e-3)
+    if d == 0.05:
+        found = [
+            4 * np.diff(theory.pair_viscosity(gas, d, 60, size=128)) for gas in ("fhp1", "fhp-rest")
+        ]
+        is_close(found[0][times - 1] / law(times), 1, 0.15)
+        is_close(found[1][times - 1] / law(times), 0, 0.1)
+
+
 def refuses(call, *words):
     """9. What is no filling, start, side, chance, size, number of generations or stress."""
     try:
@@ -288,6 +328,7 @@ CASES = [
     *((at_the_edge, gas) for gas in ("fhp1", "fhp-rest")),
     *((short_waves, gas, d, side) for gas, d, side in (*GASES, ("fhp-rest", 0.5, "seeded"))),
     (rays,),
+    *((lines, d) for d in (0.002, 0.01, 0.05)),
     *((refuses, boltzmann.pair_closure, *words) for words in NO_PAIRS),
     *((refuses, theory.pair_viscosity, *words) for words in (("hpp", 0.1, 9), ("fhp1", 0.1, -1))),
     *((refuses, theory.running_viscosity, stress) for stress in ([], [0, 1], ["a"], 1)),

@@ -13,10 +13,12 @@ import warnings
 
 sys.path.append(f"{sys.path[0]}/../lib")
 import needs
+
+needs.libraries()
+needs.built_program()
 import numpy as np
 from PIL import Image
 
-needs.built_program()
 sys.path.insert(0, str(needs.ROOT / "experiments"))
 
 import street as street_script
@@ -193,6 +195,34 @@ def returns(gas):
     sure(((0 < growth[:, 1]) & (growth[:, 1] <= growth[:, 2])).all(), output)
 
 
+def permutes(gas):
+    """No two states of a small lattice become one, and every state keeps its number of particles, and in two generations staggered
+    momenta. In HPP single rows keep more."""
+    rows = [
+        line.rsplit(maxsplit=7)
+        for line in printed(f"permutation.py --small --gas {gas}").splitlines()[2:]
+    ]
+    sure(len(rows) >= 2 and all(row[2] == "True" for row in rows), rows)
+    for name, states, _, cycles, longest, *_, once, twice in rows:
+        sure(int(states) // int(longest) <= int(cycles) < int(states), name)
+        sure(int(once) >= 1 and int(twice) >= 2, name)
+    sums = {row[0].strip(): [*map(int, row[-2:])] for row in rows}
+    sure(gas == "hpp" or sums["2 x 1"] == [1, 4] and sums["1 x 2"] == [1, 2], sums)
+
+
+def grows():
+    """The viscosity grows with the rows as the formula says, and the pair closure has its plateau."""
+    output = printed("tail.py --small")
+    are_near = [
+        numbers_of(line.split(":")[1].replace("formula", ""))
+        for line in output.splitlines()
+        if "pairs at" in line
+    ]
+    sure(abs(are_near[-1][0] - are_near[-1][1]) < 0.15 * are_near[-1][1], output)
+    ((_, found, error, wanted),) = LINE.findall(output)
+    sure(abs(float(found) - float(wanted)) <= ERRORS * float(error), output)
+
+
 def keeps():
     output = printed("invariants.py --small")
     row = re.compile(r"^ +\d+ +(\S+) +(\S+)  (\(.*\))$", re.M)
@@ -279,7 +309,8 @@ SOUND = "speed of sound", "damping D"
 NOISE = "stress after 1", "viscosity", *SOUND
 CASES = [
     *((check, gas) for check in (collides, returns) for gas in GASES),
-    *((check,) for check in (keeps, street, finds_periods, takes_arrays)),
+    *((check,) for check in (keeps, street, finds_periods, takes_arrays, grows)),
+    *((permutes, gas) for gas in GASES),
     (responds, "--filling 0.1 --triples 0.5 --until 60"),
     (responds, "--filling 0.4 --gas fhp-rest --chirality left"),
     *((check, gas) for check in (swings, forgets) for gas in FLUIDS),

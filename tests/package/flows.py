@@ -48,7 +48,48 @@ class PlainKicks:
         return states
 
 
+class Lines:
+    """East and west of FHP-I filled with d (1 +- s cos(k x) / 10), s a sign for each row and each of
+    its checkerboards, and what is left of this form."""
+
+    def __init__(self, filling, k, size, seed):
+        lots, (columns, rows) = np.random.default_rng((seed, 1)), size
+        signs = np.tile(2 * lots.integers(0, 2, (rows, 2)) - 1, columns // 2)
+        self.form = signs * np.cos(k * np.arange(columns))
+        chances = np.full((6, rows, columns), filling)
+        chances[[0, 3]] *= 1 + 0.1 * np.array([[[1]], [[-1]]]) * self.form
+        filled = [lots.random((rows, columns)) < chance for chance in chances]
+        states = sum(each.astype(np.uint8) << i for i, each in enumerate(filled))
+        self.start = fhpgas.Lattice(states, seed=seed)
+
+    def rate(self, step, count=8):
+        """At which the form fades, after the first quarter of so many steps."""
+        left = []
+        for lattice in self.start.every(step, count):
+            difference = (lattice.states & 1).astype(int) - (lattice.states >> 3 & 1)
+            left.append((np.roll(self.form, lattice.generation % 2, 1) * difference).sum())
+        times = step * np.arange(count + 1)[count // 4 :]
+        return -np.polyfit(times, np.log(left[count // 4 :]), 1)[0]
+
+
 class Flows(Package):
+    def test_lines_keep_the_difference_of_their_directions(self):
+        """It fades at m / 3 and spreads by 3 / (2 lambda) - 1/2, or faster, as docs/DERIVATION.md says."""
+        for d, columns, rows in ((0.05, 1024, 1024), (0.1, 512, 1536)):
+            m, shear = 6 * d**2 * (1 - d) ** 2, 3 * d * (1 - d) ** 3
+            rates, k = [], 2 * np.pi / 256
+            for each in (0, k):
+                rate = m / 3 + (3 / (2 * shear) - 1 / 2) * each**2
+                size, step = Size(columns, rows), round(1 / rate / 8)
+                found = [Lines(d, each, size, seed).rate(step) for seed in (1, 2, 3, 4)]
+                rates.append((*fhpgas.mean_and_error(found), rate))
+            (still, error, wanted), (moving, other, faster) = rates
+            with self.subTest(d=d, rates=rates):
+                self.assertLess(abs(still - wanted), 4 * error + 0.05 * wanted)
+                self.assertLess(error, 0.1 * wanted)
+                spread = (moving - still) / (faster - wanted)
+                self.assertTrue(0.6 < spread < 2, spread)
+
     def test_collisions_are_those_of_the_program(self):
         """All states, three cells apart on an odd row: after a generation their particles are where the program moved them."""
         for gas, side in itertools.product(map(fhpgas.gas_named, GASES), ("left", "right")):
