@@ -3,7 +3,8 @@
 . "$(dirname "$0")/lib/try.sh"
 set -o pipefail
 program=crates/fhpgas/out/fhpgas
-sources=(set_up/lint.sh documents/{links,sentences_and_words,definitions,proved}.py package/{imports,derivation,tested_functions}.py
+checked=$PWD/out/checked/fhpgas
+sources=(set_up/lint.sh documents/{links,sentences_and_words,definitions}.py package/{imports,derivation,tested_functions}.py
     program/code_without_contract.py) # what needs no program
 package=(package/{lattices,blocks,drawing,flows,processes}.py) # the tests of the package that runs lattices
 
@@ -24,7 +25,7 @@ examples() {
 # quick: for the time between edits. A program that FHPGAS names, or that is built and newer than the sources, is tried from outside, else a
 # few worked examples by `rt try`, in some minutes. Nothing is proved.
 quick() {
-    parts "${sources[@]}"
+    parts "${sources[@]}" documents/proved.py
     if [ -n "${FHPGAS-}" ] || make -sq "$program"; then
         parts program/command_line.py program/help.py documents/printed_commands.py package/explanations.py "${package[@]}" \
             package/commands.py
@@ -44,12 +45,13 @@ package() {
 }
 
 # plain: builds the sources by plain Rust, without the kit, with every check on, and tries them: the crates' own tests, the program, the
-# library beside the proved one, what differs, and the line under sanitizers
+# library beside the proved one, what differs, the crate for Rust, and the line under sanitizers
 plain() {
     has cargo 'plain Rust' || return 0
     parts plain/stripping.py plain/crates.sh
-    part make -s plain
-    FHPGAS=$PWD/out/plain/fhpgas parts plain/calls.py plain/differences.py program/command_line.py
+    part plain/build.sh out/checked checked
+    FHPGAS=$checked parts plain/calls.py plain/differences.py program/command_line.py plain/front.sh
+    FHPGAS=$checked part tests/program/mutated_scenes.py 300
     part tests/plain/sanitizers.py Sanitized.test_threads # the other sanitizer is for a release
 }
 
@@ -71,7 +73,7 @@ case $1 in
         tests/set_up/install.sh || exit 1
         if [ -z "${FHPGAS-}" ] && [ -e crates.txt ] && ! command -v rt > /dev/null && ! make -sq "$program"; then
             plain
-            export FHPGAS=$PWD/out/plain/fhpgas # the only program that this machine can build
+            export FHPGAS=$checked # the only program that this machine can build
         fi
         package
         ;;
@@ -79,18 +81,25 @@ case $1 in
         unset FHPGAS # what is built here is tried
         tests/set_up/install.sh || exit 1
         parts "${sources[@]}" set_up/missing_libraries.sh set_up/makefile.sh program/lost_wake_ups.sh
+        CI='' part tests/documents/proved.py # the gate leaves no log of the C functions, `make` does
         [ ${#failed[@]} = 0 ] || exit 1
-        gate
-        part tests/program/wrong_bodies.py "$room/gate"
-        part make -s engine
-        plain
-        parts program/command_line.py program/help.py documents/version.py program/cells_beside_c.py program/cells_beside_golly.py \
-            program/reference_scenes.py program/terminal.py documents/library.py set_up/release.sh program/large_scenes.py \
-            program/largest_sizes.py documents/first_change.sh program/refused_memory.py
+        others=(program/{help,terminal,refused_memory}.py documents/library.py set_up/release.sh documents/first_change.sh)
+        if has rt "the proofs, and ${others[*]}"; then
+            gate
+            part tests/program/wrong_bodies.py "$room/gate"
+            part make -s engine
+            plain
+            parts "${others[@]}"
+        else
+            plain
+            export FHPGAS=$checked
+        fi
+        parts program/command_line.py documents/version.py program/cells_beside_c.py program/cells_beside_golly.py \
+            program/reference_scenes.py program/large_scenes.py program/largest_sizes.py
         package
         part tests/program/mutated_scenes.py 5000
         mkdir -p out
-        tests/set_up/record.py "$room/gate" "$room/parts" "$SECONDS" > out/record
+        [ -n "${FHPGAS-}" ] || tests/set_up/record.py "$room/gate" "$room/parts" "$SECONDS" > out/record
         ;;
 esac
 tell || [ $? = 77 ]

@@ -6,7 +6,7 @@ A definition is an item of a crate's specs/. It must be believed if the contract
 does. A reader also meets the code's types that these definitions name, and the ghost members of public traits that public contracts name.
 The definitions of the kit's crates that all these reach are counted and named, but not shown: a kit of another letter may have others.
 
-Fails if PROVED and README have other counts of lines, of the kit's if it has PROVED's letter, if a definition to be believed names a type
+Fails if PROVED and README have other counts of lines (the kit's are left out without it), if a definition to be believed names a type
 that is not public, if one, or what a public call promises, cites a constant of the code instead of the number, and if a file of specs/ has
 a definition that need not be believed without saying in its first line that its words are inner ones. Ends with the counts."""
 import pathlib
@@ -237,12 +237,11 @@ def contracts_of(public, limits):
     return cited, {trait: items for trait, items in named.items() if items}, wrong
 
 
-def unsaid(own, of_kit, letter):
-    """What documents do not say of the lines for answer, and of the kit's if the kit has PROVED's letter."""
-    has_letter = f"in {letter}," in (needs.ROOT / "docs/PROVED.md").read_text()
+def unsaid(own, of_kit):
+    """What documents do not say of the lines for answer, and of the kit's, if it is there."""
     for name, words in SAID.items():
         text = " ".join((needs.ROOT / name).read_text().split())
-        for said in [words.format(own)] + [f"{of_kit:,} of the kit's"] * has_letter:
+        for said in [words.format(own)] + [f"{of_kit:,} of the kit's"] * (of_kit > 0):
             if f" {said}" not in text:
                 yield f"{name} does not say '{said}'"
 
@@ -267,13 +266,14 @@ def main():
         pathlib.Path(sys.argv[1]).write_text("\n".join(page) + "\n")
         return
     own = lines_of(it for key, it in definitions.reached(ANSWER).items() if is_own(key[0]))
-    wrong += unsaid(own, lines_of(of_kit.values()), letter)
+    wrong += unsaid(own, lines_of(of_kit.values()))
     wrong += complaints(believed, known, public, limits)
     uses = cited.union(*(it.uses for it in known.values()))
     lost = (key for key in sorted(uses - known.keys()) if is_own(key[0]))
     wrong += (f"{'.'.join(key)} is cited, and no file defines it" for key in lost)
     print(f"{own} lines for answer, and {lines_of(of_kit.values())} of the kit's crates")
-    sys.exit(needs.tell_faults(len(known), wrong))
+    left_out = [] if letter else ["the kit's definitions, because rt is missing"]
+    sys.exit(needs.tell_faults(len(known), wrong, *left_out))
 
 
 main()

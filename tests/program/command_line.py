@@ -18,7 +18,7 @@ import needs
 import second_reader
 
 PROGRAM = needs.built_program()
-IS_PLAIN = PROGRAM.parent.name == "plain"
+IS_PLAIN = PROGRAM.parent.name in ("plain", "checked")
 SOMETHING = re.compile(r"(?s).+")
 MOST_CELLS = 400_000  # that the second reader takes
 
@@ -351,6 +351,8 @@ def lone_particles():
     for plan in "4096 --capacity 128 --threads 2", "37 --capacity 1 --threads 3":
         words = f"run --stages 16 --generations {plan}".split()
         yield lone_particle((7, 1024), (0, 511), words)
+    for plan in "3 --threads 8", "40 --threads 4", "65 --threads 4", "130 --threads 64":
+        yield lone_particle((7, 64), (0, 31), f"run --generations {plan}".split())
 
 
 def examples():

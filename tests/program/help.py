@@ -30,7 +30,8 @@ PAIRS = [  # words of the help and of FORMATS, whose numbers are equal
     (r"of 1 on the square one", "on the square lattice the momentum of a particle that moves"),
     (r"(0) is the feeder", r"Turn (0) is the \*\*feeder\*\*"),
     ("G generations need at least G workers", "so G is at most N"),
-    (r"the default N is (16) T, at most (64), and the default C (128)", r"with `--threads T` (16) T, at most (64) \|\n.* with `--threads T` (128) \|"),
+    (r"the default C is (128), and the default N at least T", r"at least T \|\n.* with `--threads T` (128) \|"),
+    (r"as few passes as (16) T stages, at most (64), allow", r"as few passes as\s+(16) T stages, at most (64), allow"),
 ]  # fmt: skip
 
 

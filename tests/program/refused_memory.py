@@ -2,7 +2,8 @@
 """Refuses requests for memory, starts of threads among them, of the built program and of the calls that take memory, which the program
 `probes` makes: every request in turn, only that one or also all later ones. A refused run must end with its status and line, with every
 thread joined and all memory freed, and print nothing. Otherwise it must end with 0, without a request between the last start of a thread
-and the first join. Then the program runs under limits of its address space. Ends with the counts.
+and the first join, and with as many threads started as its plan has. Then the program runs under limits of its address space. Ends with
+the counts.
 
 The program collects its words, and then their texts, by the kit's `collect`, which asks for room for all of them and, if that is refused,
 again for less. Two requests of a run may therefore be refused by themselves and the run continue. It must then print the whole usual
@@ -33,6 +34,8 @@ REQUESTS = [
     ("drift", "run --generations 3 --stages 2 --capacity 1"),
     ("drift", "run --generations 5 --stages 4"),
     ("drift", "run --generations 5 --stages 4 --threads 1"),
+    ("drift", "run --generations 5 --stages 4 --threads 3"),
+    ("drift", "run --generations 5 --stages 3 --threads 3"),
     ("drift", "run --generations 5 --threads 2"),
     ("channel", "run --generations 1"),
     ("rest", "run --generations 4 --stages 2"),
@@ -54,6 +57,7 @@ PLANS = [
     ("hpp", 1, 6000, 64, 1024, 5),
 ]
 REST = 100_000  # bytes for the scene's text, the words and what is printed
+FORMULA = "The belts take `(T + 1) x C x width x D / 8` bytes, and three rows more each, and each stage takes at most four rows."
 
 
 class Ended:
@@ -83,11 +87,24 @@ class Ended:
         )
 
 
+def threads_of(words):
+    """The threads that a request starts beside the program's own, which has the first worker if there are fewer threads than stages. None
+    if the words do not say how many stages there are."""
+    numbers = dict(re.findall(r"--(stages|threads) (\d+)", words))
+    if "stages" not in numbers:
+        return None
+    stages, threads = int(numbers["stages"]), int(numbers.get("threads", numbers["stages"]))
+    return threads - 1 if threads < stages else threads
+
+
 def sweep(pool, library, name, words, scene, line, most_asked_again=0):
     """Refuses every request in turn, only that one or also all later ones. After at most so many refusals the run may continue, to the
     usual end."""
     usual = Ended(library, words, scene, {})
     check(f"{name}: {usual}", usual.status == 0 and usual.is_tidy() and usual.seen > 0)
+    wanted = 0 if "replay" in words else threads_of(" ".join(map(str, words)))
+    told = f"{name}: {usual.started} threads were started, and not {wanted}"
+    check(told, wanted in (None, usual.started))
     told = f"{name}: {usual.since_start} requests between last start and first join"
     check(told, usual.since_start == (0 if usual.started else usual.seen))
     ways = itertools.product(("REFUSE_AT", "REFUSE_FROM"), range(1, usual.seen + 1))
@@ -121,20 +138,20 @@ def holds_places(library, scene, row_bytes):
 
 
 def stated(gas, width, height, stages, capacity, threads):
-    """The bytes of two lattices, and those of belts and workers, by docs/PERFORMANCE.md."""
+    """The bytes of two lattices, and those of belts and workers, by the formula of docs/PERFORMANCE.md."""
     directions = len(gas_table.GASES[gas].momenta)
     plane = -(-width // 64) * 8
-    lattices = 2 * height * ((directions + 1) * plane + 256)
     row = directions * plane + 256
-    within = stages + 1 - threads if threads < stages else 0  # belts
-    places = (stages + 1 - within) * capacity + within * min(16, capacity)
-    belts = places * directions * plane + (stages + 1) * (3 * row + 8192) + stages * 3 * row
+    lattices = 2 * height * (plane + row)
+    belts = (threads + 1) * (capacity * directions * plane + 3 * row) + stages * 4 * row
     return lattices, belts
 
 
 def asks_for_no_more(library, room):
     """A run never holds more than the page on memory states for its size and plan, nor asks for more at once than for a lattice or for
     the belts. The scene's text, the words and what is printed take the rest."""
+    page = " ".join((TOP / "docs/PERFORMANCE.md").read_text().split())
+    check("the page states the formula that is computed here", FORMULA in page)
     for plan in PLANS:
         gas, width, height, stages, capacity, threads = plan
         scene = f"{room}/area"

@@ -60,6 +60,8 @@ def place(crate, told):
         head = next(i for i in range(begun, len(lines)) if not re.match(r"\s*(#\[|//)", lines[i]))
         function = FUNCTION.match(lines[head])[2] if FUNCTION.match(lines[head]) else at[begun][0]
         promised = next(clauses for name, clauses in reversed(at) if name == function)
+    elif lemma := re.search(r"\./(proofs/\w+\.antt):\d+:\d+: error: `([\w-]+)`", told):
+        return lemma[1], lemma[2], "not a clause: a lemma"
     else:
         return "-", "-", "a limit of the prover" if "only by a limit" in told else told[:60]
     if "the `invariant` of the struct" in told:  # rt may cut off the goal's name
