@@ -24,12 +24,10 @@ four_read xs j l within h =
     ∙ ap (λ k. get_or (take (j + 4 - j) (drop j xs)) k 0) (let e : 0 + l ≡ l = omega arith in e)
     ∙ part_get xs j (j + 4 - j) l (omega (arith, h)) (omega (arith, within))
 
-pub short_read : (xs : List ℕ) (j a b c : ℕ) → length xs < 4 → j ≡ 0 → a ≡ get_or xs 0 0 → b ≡ get_or xs 1 0 → c ≡ get_or xs 2 0
-    → (l : ℕ) → l < 4 → get_or (a ∷ b ∷ c ∷ 0 ∷ []) l 0 ≡ get_or xs (j + l) 0
-short_read xs j a b c short start ea eb ec =
-    let at : (l : ℕ) → get_or xs l 0 ≡ get_or xs (j + l) 0 = λ l. ap (λ k. get_or xs k 0) (let e : l ≡ j + l = omega (arith, start) in e) in
-    each_lane (λ l. get_or (a ∷ b ∷ c ∷ 0 ∷ []) l 0 ≡ get_or xs (j + l) 0) (ea ∙ at 0) (eb ∙ at 1) (ec ∙ at 2)
-    (sym (get_or_past xs 3 0 (omega (arith, short))) ∙ at 3)
+pub short_read : (xs : List ℕ) (a b c : ℕ) → length xs < 4 → a ≡ get_or xs 0 0 → b ≡ get_or xs 1 0 → c ≡ get_or xs 2 0
+    → (l : ℕ) → l < 4 → get_or (a ∷ b ∷ c ∷ 0 ∷ []) l 0 ≡ get_or xs l 0
+short_read xs a b c short ea eb ec =
+    each_lane (λ l. get_or (a ∷ b ∷ c ∷ 0 ∷ []) l 0 ≡ get_or xs l 0) ea eb ec (sym (get_or_past xs 3 0 (omega (arith, short))))
 
 -- ---- one bit of them
 -- lane l of an operation on four lanes

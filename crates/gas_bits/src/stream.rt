@@ -21,6 +21,21 @@ fn word_or_zero(words: &[u64], j: usize) -> u64
     if j < words.len() { words[j] } else { 0 }
 }
 
+// The words of a row of fewer than four words, with zeros past its end. Not inlined, since few rows are
+// as short.
+#[inline(never)]
+fn few_at(words: &[u64]) -> u64x4
+    requires { length words.now < 4 }
+    ensures { (l : ℕ) → l < 4 → slice_index result l ≡ slice_index words.now l }
+{
+    u64x4::from_array([
+        word_or_zero(words, 0),
+        word_or_zero(words, 1),
+        word_or_zero(words, 2),
+        0,
+    ])
+}
+
 /// Words `j` to `j + 3` of a row of `n` words, with zeros past its end. Only a row of fewer than four
 /// words is read past its end.
 #[inline(always)]
@@ -30,12 +45,7 @@ pub fn four_at(words: &[u64], n: usize, j: usize) -> u64x4
     ensures words { (l : ℕ) → l < 4 → slice_index result l ≡ slice_index words.now (j + l) }
 {
     if n < 4 {
-        u64x4::from_array([
-            word_or_zero(words, 0),
-            word_or_zero(words, 1),
-            word_or_zero(words, 2),
-            0,
-        ])
+        few_at(words)
     } else {
         u64x4::from_slice(&words[j..j + 4])
     }

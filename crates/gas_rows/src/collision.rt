@@ -59,10 +59,10 @@ impl<'a> Collision<'a> {
             ≡ collided_state G.rules self.now from.now y }
     {
         let collision = *self;
-        if collision.all_fluid {
-            collision.collide_there::<G>(from, out, true);
-        } else {
-            collision.collide_there::<G>(from, out, false);
+        for k in 0..collision.words_each.div_ceil(4) {
+            let j = (4 * k).min(collision.words_each.saturating_sub(4));
+            let four = collision.collided::<G>(from, j);
+            collision.put::<G>(out, j, four, false);
         }
     }
 
@@ -87,26 +87,6 @@ impl<'a> Collision<'a> {
             self.put::<G>(words, 4 * k, four, all_fluid);
         }
         self.put::<G>(words, end, last, all_fluid);
-    }
-
-    #[inline(always)]
-    fn collide_there<G: Gas>(&self, from: &[u64], out: &mut [u64], all_fluid: bool)
-        requires from { length from.now ≡ G.rules.dirs * self.now.words_each }
-        requires out { length out.old ≡ G.rules.dirs * self.now.words_each }
-        requires fluid { IsTrue all_fluid → IsTrue self.now.all_fluid }
-        ensures { (y : ℕ) → y / 64 < self.now.words_each →
-            state out.new self.now.words_each G.rules.dirs y
-            ≡ collided_state G.rules self.now from.now y }
-    {
-        if self.words_each < 4 {
-            self.put::<G>(out, 0, self.collided::<G>(from, 0), all_fluid);
-            return;
-        }
-        for k in 0..(self.words_each - 1) / 4 {
-            self.put::<G>(out, 4 * k, self.collided::<G>(from, 4 * k), all_fluid);
-        }
-        let end = self.words_each - 4;
-        self.put::<G>(out, end, self.collided::<G>(from, end), all_fluid);
     }
 
     // Words `j` to `j + 3` of each direction after a collision of all their cells.

@@ -1,6 +1,6 @@
 //! The streaming of a row, wherever walls and solid cells are: every particle moves along its link,
 //! or is sent back if the link ends at a solid cell or the wall.
-ghost use Rattle.std.specs.Prelude.{◌≡◌, ◌+◌, ◌*◌, ◌/◌, ◌%◌, ◌<◌, ◌≤◌, ◌==◌, ℕ, false, if◌then◌else◌, max, take, drop, not, IsTrue, length, slice_index};
+ghost use Rattle.std.specs.Prelude.{◌≡◌, ◌+◌, ◌-◌, ◌*◌, ◌/◌, ◌%◌, ◌<◌, ◌≤◌, ◌==◌, ℕ, false, if◌then◌else◌, max, take, drop, not, IsTrue, length, slice_index};
 ghost use Rattle.gas_geom.specs.declared.size.TheConstants.{MOST_SIDE};
 ghost use Rattle.gas_bits.specs.Words.{words_in, bit};
 ghost use Rattle.gas_rows.specs.Inner.Beside.{row_beside};
@@ -152,16 +152,17 @@ impl<'a, 'b> Kernel<'a, 'b> {
         ]
     }
 
-    // Writes words `j` to `j + 3` of each direction after streaming and the collision that follows, if
-    // one does. Bits past the width are left open.
+    // Writes words `j` to `j + 3` of each direction after streaming and, if it `collides`, the collision
+    // that follows. Bits past the width are left open.
     #[inline(always)]
-    fn write_four<G: Gas>(&self, j: usize, first: bool, last: bool, out: &mut [u64])
+    fn write_four<G: Gas>(&self, j: usize, first: bool, last: bool, collides: bool, out: &mut [u64])
         requires rows { AreRowsLong G.rules.dirs self.now.rows }
         requires within { j + 4 ≤ max 4 (words_in self.now.rows.width) }
         requires first { IsTrue first → j ≡ 0 }
         requires after_first { IsTrue (not first) → 1 ≤ j }
         requires last { IsTrue last → words_in self.now.rows.width ≤ j + 4 }
         requires before_last { IsTrue (not last) → j + 4 < words_in self.now.rows.width }
+        requires collides { collides ≡ self.now.collides }
         requires long { length out.old ≡ G.rules.dirs * words_in self.now.rows.width }
         ensures long { length out.new ≡ length out.old }
         ensures advanced { (channel : ChannelModel) (at : ℕ → ℕ → ℕ) →
@@ -171,12 +172,47 @@ impl<'a, 'b> Kernel<'a, 'b> {
         let dirs = directions::<G>();
         let words_each = words_for(self.rows.width);
         let streamed = self.stream_planes::<G>(j, first, last);
-        let planes = if self.collides {
+        let planes = if collides {
             G::collide_planes(streamed, four_at(self.chi, words_each, j))
         } else {
             streamed
         };
         write_four_at(out, words_each, dirs, j, planes, u64x4::splat(0));
+    }
+
+    // Writes the words of a row but the first and the last four.
+    #[inline(always)]
+    fn write_fours<G: Gas>(&self, collides: bool, out: &mut [u64])
+        requires rows { AreRowsLong G.rules.dirs self.now.rows }
+        requires many { 4 ≤ words_in self.now.rows.width }
+        requires collides { collides ≡ self.now.collides }
+        requires long { length out.old ≡ G.rules.dirs * words_in self.now.rows.width }
+        ensures long { length out.new ≡ length out.old }
+        ensures advanced { (channel : ChannelModel) (at : ℕ → ℕ → ℕ) →
+            AreWordsAbout G.rules.dirs channel at self.now.rows →
+            AreAdvanced G.rules channel at self.now 4 (4 * ((words_in self.now.rows.width - 1) / 4)) out.old out.new }
+    {
+        for k in 1..(words_for(self.rows.width) - 1) / 4 {
+            self.write_four::<G>(4 * k, false, false, collides, out);
+        }
+    }
+
+    // The same with a constant for the collision.
+    #[inline(always)]
+    fn write_middle<G: Gas>(&self, out: &mut [u64])
+        requires rows { AreRowsLong G.rules.dirs self.now.rows }
+        requires many { 4 ≤ words_in self.now.rows.width }
+        requires long { length out.old ≡ G.rules.dirs * words_in self.now.rows.width }
+        ensures long { length out.new ≡ length out.old }
+        ensures advanced { (channel : ChannelModel) (at : ℕ → ℕ → ℕ) →
+            AreWordsAbout G.rules.dirs channel at self.now.rows →
+            AreAdvanced G.rules channel at self.now 4 (4 * ((words_in self.now.rows.width - 1) / 4)) out.old out.new }
+    {
+        if self.collides {
+            self.write_fours::<G>(true, out);
+        } else {
+            self.write_fours::<G>(false, out);
+        }
     }
 
     // Writes all words of a row of at least four words of each direction. The last four lie over those
@@ -192,15 +228,29 @@ impl<'a, 'b> Kernel<'a, 'b> {
             AreAdvanced G.rules channel at self.now 0 (words_in self.now.rows.width) out.old out.new }
     {
         let words_each = words_for(self.rows.width);
-        if words_each == 4 {
-            self.write_four::<G>(0, true, true, out);
-            return;
+        self.write_four::<G>(0, true, words_each == 4, self.collides, out);
+        if words_each > 4 {
+            self.write_middle::<G>(out);
+            self.write_four::<G>(words_each - 4, false, true, self.collides, out);
         }
-        self.write_four::<G>(0, true, false, out);
-        for k in 1..(words_each - 1) / 4 {
-            self.write_four::<G>(4 * k, false, false, out);
+    }
+
+    // The same by one body for all words, which is shorter.
+    #[inline(always)]
+    fn write_row_beside_solid<G: Gas>(&self, out: &mut [u64])
+        requires rows { AreRowsLong G.rules.dirs self.now.rows }
+        requires many { 4 ≤ words_in self.now.rows.width }
+        requires long { length out.old ≡ G.rules.dirs * words_in self.now.rows.width }
+        ensures long { length out.new ≡ length out.old }
+        ensures advanced { (channel : ChannelModel) (at : ℕ → ℕ → ℕ) →
+            AreWordsAbout G.rules.dirs channel at self.now.rows →
+            AreAdvanced G.rules channel at self.now 0 (words_in self.now.rows.width) out.old out.new }
+    {
+        let words_each = words_for(self.rows.width);
+        for k in 0..words_each.div_ceil(4) {
+            let j = (4 * k).min(words_each - 4);
+            self.write_four::<G>(j, k == 0, words_each <= 4 * k + 4, self.collides, out);
         }
-        self.write_four::<G>(words_each - 4, false, true, out);
     }
 }
 
@@ -237,7 +287,7 @@ impl<'a> Neighbourhood<'a> {
     }
 
     // Writes the words of the row after streaming and the collision that follows, if one does.
-    #[inline(always)]
+    #[inline(never)]
     fn advance<G: Gas>(&self, chi: &[u64], collides: bool, out: &mut [u64])
         requires rows { AreRowsLong G.rules.dirs self.now }
         requires chi_long { IsTrue collides → length chi.now ≡ words_in self.now.width }
@@ -251,23 +301,25 @@ impl<'a> Neighbourhood<'a> {
             state out.new (words_in self.now.width) G.rules.dirs x
             ≡ advanced_state G.rules collides (streamed G.rules channel at x self.now.y) (bit chi.now x) }
     {
-        let odd = self.y % 2 == 1;
-        if words_for(self.width) < 4 {
-            self.kernel(chi, collides, odd, self.all_fluid)
-                .write_four::<G>(0, true, true, out);
+        // A copy, so that a compiler knows that no store through `out` changes it.
+        let rows = *self;
+        let odd = rows.y % 2 == 1;
+        if words_for(rows.width) < 4 {
+            rows.kernel(chi, collides, odd, false)
+                .write_four::<G>(0, true, true, collides, out);
+        } else if !rows.all_fluid {
+            rows.kernel(chi, collides, odd, false)
+                .write_row_beside_solid::<G>(out);
+        } else if odd {
+            rows.kernel(chi, collides, true, true).write_row::<G>(out);
         } else {
-            match (odd, self.all_fluid) {
-                (false, false) => self.kernel(chi, collides, false, false).write_row::<G>(out),
-                (false, true) => self.kernel(chi, collides, false, true).write_row::<G>(out),
-                (true, false) => self.kernel(chi, collides, true, false).write_row::<G>(out),
-                (true, true) => self.kernel(chi, collides, true, true).write_row::<G>(out),
-            }
+            rows.kernel(chi, collides, false, true).write_row::<G>(out);
         }
         clear_planes_past(out, directions::<G>(), self.width);
     }
 
     /// Writes the words of the row after streaming. Bits past the width are 0.
-    #[inline(never)]
+    #[inline(always)]
     pub fn stream<G: Gas>(&self, out: &mut [u64])
         requires rows { AreRowsLong G.rules.dirs self.now }
         requires long { length out.old ≡ G.rules.dirs * words_in self.now.width }
@@ -280,14 +332,12 @@ impl<'a> Neighbourhood<'a> {
             state out.new (words_in self.now.width) G.rules.dirs x
             ≡ streamed G.rules channel at x self.now.y }
     {
-        // A copy, so that a compiler knows that no store through `out` changes it.
-        let rows = *self;
-        rows.advance::<G>(&[], false, out);
+        self.advance::<G>(&[], false, out);
     }
 
     /// Writes the words of the row after streaming and the collision that follows, by these random
     /// bits. Bits past the width are 0.
-    #[inline(never)]
+    #[inline(always)]
     pub fn stream_and_collide<G: Gas>(&self, chi: &[u64], out: &mut [u64])
         requires rows { AreRowsLong G.rules.dirs self.now }
         requires chi_long { length chi.now ≡ words_in self.now.width }
@@ -302,7 +352,6 @@ impl<'a> Neighbourhood<'a> {
             ≡ (if is_solid channel x self.now.y then 0
             else G.rules.collide (streamed G.rules channel at x self.now.y) (bit chi.now x)) }
     {
-        let rows = *self;
-        rows.advance::<G>(chi, true, out);
+        self.advance::<G>(chi, true, out);
     }
 }

@@ -5,7 +5,7 @@ use Rattle.gas_bits.specs.Planes.{state}
 use Rattle.gas_bits.proofs.Cells.{state-same}
 use Rattle.gas_rows.specs.declared.stream.Neighbourhood.{Neighbourhood}
 use Rattle.gas_rows.proofs.Streaming.{all_advanced}
-use Rattle.gas_rows.proofs.stream.Neighbourhood.advance.Goals.{then-words_for-lt4, else-words_for-lt4+in-true-true, else-words_for-lt4+in-true-false, else-words_for-lt4+in-false-true, else-words_for-lt4+in-false-false}
+use Rattle.gas_rows.proofs.stream.Neighbourhood.advance.Goals.{then-words_for-lt4, else-words_for-lt4+then-not-rows, else-words_for-lt4+else-not-rows+then-odd, else-words_for-lt4+else-not-rows+else-odd}
 use Rattle.gas_rows.proofs.stream.Neighbourhood.advance.Goals as goal
 
 pub returns-clause-advanced : goal.returns-clause-advanced
@@ -22,16 +22,13 @@ returns-clause-advanced g c = λ ch at about x h.
       | then-words_for-lt4 w ↦ ap (λ o. state o n gas.dirs x) w.out-is
           ∙ all_advanced gas ch at q w.kernel.result 4 c.args.out.now w.write_four.new.out c.args.chi.now c.args.collides
           w.kernel.ensures.rows w.kernel.ensures.chi w.kernel.ensures.collides about (omega (arith, w.if-words_for-lt4.true, c.words_for.ensures.value)) (w.write_four.ensures.advanced ch at) x h
-      | else-words_for-lt4+in-true-true w ↦ ap (λ o. state o n gas.dirs x) w.out-is
-          ∙ all_advanced gas ch at q w.kernel-in-true-true.result (words_in w.kernel-in-true-true.result.rows.width) c.args.out.now w.write_row.new.out c.args.chi.now c.args.collides
-          w.kernel-in-true-true.ensures.rows w.kernel-in-true-true.ensures.chi w.kernel-in-true-true.ensures.collides about (omega (arith, ap (λ (m : Neighbourhood). words_in m.width) w.kernel-in-true-true.ensures.rows)) (w.write_row.ensures.advanced ch at) x h
-      | else-words_for-lt4+in-true-false w ↦ ap (λ o. state o n gas.dirs x) w.out-is
-          ∙ all_advanced gas ch at q w.kernel-in-true-false.result (words_in w.kernel-in-true-false.result.rows.width) c.args.out.now w.write_row-in-true-false.new.out c.args.chi.now c.args.collides
-          w.kernel-in-true-false.ensures.rows w.kernel-in-true-false.ensures.chi w.kernel-in-true-false.ensures.collides about (omega (arith, ap (λ (m : Neighbourhood). words_in m.width) w.kernel-in-true-false.ensures.rows)) (w.write_row-in-true-false.ensures.advanced ch at) x h
-      | else-words_for-lt4+in-false-true w ↦ ap (λ o. state o n gas.dirs x) w.out-is
-          ∙ all_advanced gas ch at q w.kernel-in-false-true.result (words_in w.kernel-in-false-true.result.rows.width) c.args.out.now w.write_row-in-false-true.new.out c.args.chi.now c.args.collides
-          w.kernel-in-false-true.ensures.rows w.kernel-in-false-true.ensures.chi w.kernel-in-false-true.ensures.collides about (omega (arith, ap (λ (m : Neighbourhood). words_in m.width) w.kernel-in-false-true.ensures.rows)) (w.write_row-in-false-true.ensures.advanced ch at) x h
-      | else-words_for-lt4+in-false-false w ↦ ap (λ o. state o n gas.dirs x) w.out-is
-          ∙ all_advanced gas ch at q w.kernel-in-false-false.result (words_in w.kernel-in-false-false.result.rows.width) c.args.out.now w.write_row-in-false-false.new.out c.args.chi.now c.args.collides
-          w.kernel-in-false-false.ensures.rows w.kernel-in-false-false.ensures.chi w.kernel-in-false-false.ensures.collides about (omega (arith, ap (λ (m : Neighbourhood). words_in m.width) w.kernel-in-false-false.ensures.rows)) (w.write_row-in-false-false.ensures.advanced ch at) x h
+      | else-words_for-lt4+then-not-rows w ↦ ap (λ o. state o n gas.dirs x) w.out-is
+          ∙ all_advanced gas ch at q w.kernel-then-not-rows.result (words_in w.kernel-then-not-rows.result.rows.width) c.args.out.now w.write_row_beside_solid.new.out c.args.chi.now c.args.collides
+          w.kernel-then-not-rows.ensures.rows w.kernel-then-not-rows.ensures.chi w.kernel-then-not-rows.ensures.collides about (omega (arith, ap (λ (m : Neighbourhood). words_in m.width) w.kernel-then-not-rows.ensures.rows)) (w.write_row_beside_solid.ensures.advanced ch at) x h
+      | else-words_for-lt4+else-not-rows+then-odd w ↦ ap (λ o. state o n gas.dirs x) w.out-is
+          ∙ all_advanced gas ch at q w.kernel-then-odd.result (words_in w.kernel-then-odd.result.rows.width) c.args.out.now w.write_row.new.out c.args.chi.now c.args.collides
+          w.kernel-then-odd.ensures.rows w.kernel-then-odd.ensures.chi w.kernel-then-odd.ensures.collides about (omega (arith, ap (λ (m : Neighbourhood). words_in m.width) w.kernel-then-odd.ensures.rows)) (w.write_row.ensures.advanced ch at) x h
+      | else-words_for-lt4+else-not-rows+else-odd w ↦ ap (λ o. state o n gas.dirs x) w.out-is
+          ∙ all_advanced gas ch at q w.kernel-else-odd.result (words_in w.kernel-else-odd.result.rows.width) c.args.out.now w.write_row-else-odd.new.out c.args.chi.now c.args.collides
+          w.kernel-else-odd.ensures.rows w.kernel-else-odd.ensures.chi w.kernel-else-odd.ensures.collides about (omega (arith, ap (λ (m : Neighbourhood). words_in m.width) w.kernel-else-odd.ensures.rows)) (w.write_row-else-odd.ensures.advanced ch at) x h
     ]

@@ -1,7 +1,7 @@
 use Rattle.std.proofs.Common.{◌≡◌, ◌*◌, ◌/◌, ◌<◌, ℕ, length}
 use Rattle.gas_bits.specs.Planes.{state}
 use Rattle.gas_rows.specs.Collision.{collided_state}
-use Rattle.gas_rows.proofs.collision.Collision.collide_there.Given as goal
+use Rattle.gas_rows.proofs.collision.Collision.collide_into.Given as goal
 
 -- the words before 4 * k are written
 abbrev pub invariant-loop-k : goal.invariant-loop-k
