@@ -22,10 +22,7 @@ pub mod prelude {
         #[inline(always)]
         fn bitand(self, other: u8x64) -> u8x64 { u8x64(from_fn(|i| self.0[i] & other.0[i])) }
     }
-    #[cfg(not(target_arch = "wasm32"))]
     pub use super::words::u64x4;
-    #[cfg(target_arch = "wasm32")]
-    pub use super::wasm::u64x4;
     impl Lanes {
         /// Bit i for lane i. The product brings the lowest bits of eight bytes together in the top one.
         #[inline(always)]
@@ -38,135 +35,154 @@ pub mod prelude {
     }
 }
 
-/// The vectors of a compiler that makes them of arrays by itself.
-#[cfg(not(target_arch = "wasm32"))]
-mod words {
-    use core::array::from_fn;
-    /// Four words of 64 bits.
-    #[allow(non_camel_case_types)]
-    #[derive(Clone, Copy)]
-    #[repr(align(32))]
-    pub struct u64x4([u64; 4]);
-    impl u64x4 {
-        #[inline(always)]
-        pub fn from_array(words: [u64; 4]) -> Self { u64x4(words) }
-        #[inline(always)]
-        pub fn to_array(self) -> [u64; 4] { self.0 }
-        #[inline(always)]
-        pub fn splat(word: u64) -> Self { u64x4([word; 4]) }
-        /// The first four words of a slice, which has at least four.
-        #[inline(always)]
-        pub fn from_slice(words: &[u64]) -> Self { u64x4([words[0], words[1], words[2], words[3]]) }
-        /// Writes the first four words of a slice, which has at least four.
-        #[inline(always)]
-        pub fn copy_to_slice(self, words: &mut [u64]) { words[..4].copy_from_slice(&self.0); }
-    }
-    impl core::ops::BitAnd for u64x4 {
-        type Output = u64x4;
-        #[inline(always)]
-        fn bitand(self, other: u64x4) -> u64x4 { u64x4(from_fn(|i| self.0[i] & other.0[i])) }
-    }
-    impl core::ops::BitOr for u64x4 {
-        type Output = u64x4;
-        #[inline(always)]
-        fn bitor(self, other: u64x4) -> u64x4 { u64x4(from_fn(|i| self.0[i] | other.0[i])) }
-    }
-    impl core::ops::BitXor for u64x4 {
-        type Output = u64x4;
-        #[inline(always)]
-        fn bitxor(self, other: u64x4) -> u64x4 { u64x4(from_fn(|i| self.0[i] ^ other.0[i])) }
-    }
-    // As Rust's own, by the low six bits of each lane of the right side.
-    impl core::ops::Shl for u64x4 {
-        type Output = u64x4;
-        #[inline(always)]
-        fn shl(self, by: u64x4) -> u64x4 { u64x4(from_fn(|i| self.0[i].wrapping_shl(by.0[i] as u32))) }
-    }
-    impl core::ops::Shr for u64x4 {
-        type Output = u64x4;
-        #[inline(always)]
-        fn shr(self, by: u64x4) -> u64x4 { u64x4(from_fn(|i| self.0[i].wrapping_shr(by.0[i] as u32))) }
-    }
-    impl core::ops::Not for u64x4 {
-        type Output = u64x4;
-        #[inline(always)]
-        fn not(self) -> u64x4 { u64x4(self.0.map(|word| !word)) }
-    }
+// The vectors of a processor, because compilers take arrays of words apart where two ways join. SAFETY: a
+// processor of the target has their instructions.
+#[cfg(target_feature = "avx2")]
+mod vector {
+    use core::arch::x86_64::*;
+    pub type Vector = __m256i;
+    pub const EACH: usize = 4;
+    #[inline(always)]
+    pub fn and(a: Vector, b: Vector) -> Vector { unsafe { _mm256_and_si256(a, b) } }
+    #[inline(always)]
+    pub fn or(a: Vector, b: Vector) -> Vector { unsafe { _mm256_or_si256(a, b) } }
+    #[inline(always)]
+    pub fn xor(a: Vector, b: Vector) -> Vector { unsafe { _mm256_xor_si256(a, b) } }
+    #[inline(always)]
+    pub fn shl(a: Vector, by: u32) -> Vector { unsafe { _mm256_sll_epi64(a, _mm_cvtsi32_si128(by as i32)) } }
+    #[inline(always)]
+    pub fn shr(a: Vector, by: u32) -> Vector { unsafe { _mm256_srl_epi64(a, _mm_cvtsi32_si128(by as i32)) } }
+}
+#[cfg(all(target_arch = "x86_64", not(target_feature = "avx2")))]
+mod vector {
+    use core::arch::x86_64::*;
+    pub type Vector = __m128i;
+    pub const EACH: usize = 2;
+    #[inline(always)]
+    pub fn and(a: Vector, b: Vector) -> Vector { unsafe { _mm_and_si128(a, b) } }
+    #[inline(always)]
+    pub fn or(a: Vector, b: Vector) -> Vector { unsafe { _mm_or_si128(a, b) } }
+    #[inline(always)]
+    pub fn xor(a: Vector, b: Vector) -> Vector { unsafe { _mm_xor_si128(a, b) } }
+    #[inline(always)]
+    pub fn shl(a: Vector, by: u32) -> Vector { unsafe { _mm_sll_epi64(a, _mm_cvtsi32_si128(by as i32)) } }
+    #[inline(always)]
+    pub fn shr(a: Vector, by: u32) -> Vector { unsafe { _mm_srl_epi64(a, _mm_cvtsi32_si128(by as i32)) } }
+}
+#[cfg(target_arch = "aarch64")]
+mod vector {
+    use core::arch::aarch64::*;
+    pub type Vector = uint64x2_t;
+    pub const EACH: usize = 2;
+    #[inline(always)]
+    pub fn and(a: Vector, b: Vector) -> Vector { unsafe { vandq_u64(a, b) } }
+    #[inline(always)]
+    pub fn or(a: Vector, b: Vector) -> Vector { unsafe { vorrq_u64(a, b) } }
+    #[inline(always)]
+    pub fn xor(a: Vector, b: Vector) -> Vector { unsafe { veorq_u64(a, b) } }
+    #[inline(always)]
+    pub fn shl(a: Vector, by: u32) -> Vector { unsafe { vshlq_u64(a, vdupq_n_s64(i64::from(by))) } }
+    #[inline(always)]
+    pub fn shr(a: Vector, by: u32) -> Vector { unsafe { vshlq_u64(a, vdupq_n_s64(-i64::from(by))) } }
+}
+#[cfg(target_arch = "wasm32")]
+mod vector {
+    use core::arch::wasm32::*;
+    pub type Vector = v128;
+    pub const EACH: usize = 2;
+    #[inline(always)]
+    pub fn and(a: Vector, b: Vector) -> Vector { unsafe { v128_and(a, b) } }
+    #[inline(always)]
+    pub fn or(a: Vector, b: Vector) -> Vector { unsafe { v128_or(a, b) } }
+    #[inline(always)]
+    pub fn xor(a: Vector, b: Vector) -> Vector { unsafe { v128_xor(a, b) } }
+    #[inline(always)]
+    pub fn shl(a: Vector, by: u32) -> Vector { unsafe { u64x2_shl(a, by) } }
+    #[inline(always)]
+    pub fn shr(a: Vector, by: u32) -> Vector { unsafe { u64x2_shr(a, by) } }
+}
+#[cfg(not(any(target_arch = "x86_64", target_arch = "aarch64", target_arch = "wasm32")))]
+mod vector {
+    pub type Vector = u64;
+    pub const EACH: usize = 1;
+    #[inline(always)]
+    pub fn and(a: Vector, b: Vector) -> Vector { a & b }
+    #[inline(always)]
+    pub fn or(a: Vector, b: Vector) -> Vector { a | b }
+    #[inline(always)]
+    pub fn xor(a: Vector, b: Vector) -> Vector { a ^ b }
+    #[inline(always)]
+    pub fn shl(a: Vector, by: u32) -> Vector { a << by }
+    #[inline(always)]
+    pub fn shr(a: Vector, by: u32) -> Vector { a >> by }
 }
 
-/// The same of WebAssembly's, because its compiler takes arrays apart.
-#[cfg(target_arch = "wasm32")]
-mod wasm {
-    use core::arch::wasm32::*;
+mod words {
+    use super::vector::{EACH, Vector, and, or, shl, shr, xor};
+    use core::array::from_fn;
+    use core::mem::transmute;
+    use core::ops::{BitAnd, BitOr, BitXor, Not, Shl, Shr};
+    const PARTS: usize = 4 / EACH;
     /// Four words of 64 bits.
     #[allow(non_camel_case_types)]
     #[derive(Clone, Copy)]
-    pub struct u64x4(v128, v128);
+    pub struct u64x4([Vector; PARTS]);
     impl u64x4 {
+        // SAFETY of both: four words are the bits of these vectors.
         #[inline(always)]
-        pub fn from_array(words: [u64; 4]) -> Self { u64x4(u64x2(words[0], words[1]), u64x2(words[2], words[3])) }
+        pub fn from_array(words: [u64; 4]) -> Self { u64x4(unsafe { transmute::<[u64; 4], [Vector; PARTS]>(words) }) }
         #[inline(always)]
-        pub fn to_array(self) -> [u64; 4] {
-            let lanes = (u64x2_extract_lane::<0>(self.0), u64x2_extract_lane::<1>(self.0));
-            [lanes.0, lanes.1, u64x2_extract_lane::<0>(self.1), u64x2_extract_lane::<1>(self.1)]
-        }
+        pub fn to_array(self) -> [u64; 4] { unsafe { transmute::<[Vector; PARTS], [u64; 4]>(self.0) } }
         #[inline(always)]
-        pub fn splat(word: u64) -> Self { u64x4(u64x2_splat(word), u64x2_splat(word)) }
+        pub fn splat(word: u64) -> Self { u64x4::from_array([word; 4]) }
         /// The first four words of a slice, which has at least four.
         #[inline(always)]
         pub fn from_slice(words: &[u64]) -> Self {
-            let words: *const v128 = words[..4].as_ptr().cast();
-            // SAFETY: four words are two vectors, which may lie anywhere.
-            unsafe { u64x4(v128_load(words), v128_load(words.add(1))) }
+            // SAFETY: they are as long as the vectors, which may lie anywhere.
+            u64x4(unsafe { words[..4].as_ptr().cast::<[Vector; PARTS]>().read_unaligned() })
         }
         /// Writes the first four words of a slice, which has at least four.
         #[inline(always)]
         pub fn copy_to_slice(self, words: &mut [u64]) {
-            let words: *mut v128 = words[..4].as_mut_ptr().cast();
             // SAFETY: as above.
-            unsafe {
-                v128_store(words, self.0);
-                v128_store(words.add(1), self.1);
-            }
+            unsafe { words[..4].as_mut_ptr().cast::<[Vector; PARTS]>().write_unaligned(self.0) }
+        }
+        // Shifted by the low six bits of each lane, as Rust's own: by vectors if all are the same.
+        #[inline(always)]
+        fn shifted(self, by: u64x4, all: fn(Vector, u32) -> Vector, one: fn(u64, u32) -> u64) -> Self {
+            let (words, by) = (self.to_array(), by.to_array().map(|by| by as u32 % 64));
+            if by == [by[0]; 4] { return u64x4(from_fn(|i| all(self.0[i], by[0]))); }
+            u64x4::from_array(from_fn(|i| one(words[i], by[i])))
         }
     }
-    impl core::ops::BitAnd for u64x4 {
+    impl BitAnd for u64x4 {
         type Output = u64x4;
         #[inline(always)]
-        fn bitand(self, other: u64x4) -> u64x4 { u64x4(v128_and(self.0, other.0), v128_and(self.1, other.1)) }
+        fn bitand(self, other: u64x4) -> u64x4 { u64x4(from_fn(|i| and(self.0[i], other.0[i]))) }
     }
-    impl core::ops::BitOr for u64x4 {
+    impl BitOr for u64x4 {
         type Output = u64x4;
         #[inline(always)]
-        fn bitor(self, other: u64x4) -> u64x4 { u64x4(v128_or(self.0, other.0), v128_or(self.1, other.1)) }
+        fn bitor(self, other: u64x4) -> u64x4 { u64x4(from_fn(|i| or(self.0[i], other.0[i]))) }
     }
-    impl core::ops::BitXor for u64x4 {
+    impl BitXor for u64x4 {
         type Output = u64x4;
         #[inline(always)]
-        fn bitxor(self, other: u64x4) -> u64x4 { u64x4(v128_xor(self.0, other.0), v128_xor(self.1, other.1)) }
+        fn bitxor(self, other: u64x4) -> u64x4 { u64x4(from_fn(|i| xor(self.0[i], other.0[i]))) }
     }
-    // As Rust's own, by the low six bits of each lane of the right side.
-    impl core::ops::Shl for u64x4 {
+    impl Shl for u64x4 {
         type Output = u64x4;
         #[inline(always)]
-        fn shl(self, by: u64x4) -> u64x4 {
-            let (words, by) = (self.to_array(), by.to_array());
-            if by == [by[0]; 4] { return u64x4(u64x2_shl(self.0, by[0] as u32), u64x2_shl(self.1, by[0] as u32)); }
-            u64x4::from_array(core::array::from_fn(|i| words[i].wrapping_shl(by[i] as u32)))
-        }
+        fn shl(self, other: u64x4) -> u64x4 { self.shifted(other, |a, by| shl(a, by), |a, by| a << by) }
     }
-    impl core::ops::Shr for u64x4 {
+    impl Shr for u64x4 {
         type Output = u64x4;
         #[inline(always)]
-        fn shr(self, by: u64x4) -> u64x4 {
-            let (words, by) = (self.to_array(), by.to_array());
-            if by == [by[0]; 4] { return u64x4(u64x2_shr(self.0, by[0] as u32), u64x2_shr(self.1, by[0] as u32)); }
-            u64x4::from_array(core::array::from_fn(|i| words[i].wrapping_shr(by[i] as u32)))
-        }
+        fn shr(self, other: u64x4) -> u64x4 { self.shifted(other, |a, by| shr(a, by), |a, by| a >> by) }
     }
-    impl core::ops::Not for u64x4 {
+    impl Not for u64x4 {
         type Output = u64x4;
         #[inline(always)]
-        fn not(self) -> u64x4 { u64x4(v128_not(self.0), v128_not(self.1)) }
+        fn not(self) -> u64x4 { self ^ u64x4::splat(u64::MAX) }
     }
 }
