@@ -1,8 +1,8 @@
 /* fhpgas: a lattice gas in memory that the caller gives.
  *
- * A call reads and writes nothing but its arguments, takes no memory, starts no thread, and returns. What it refuses, it leaves unchanged. A
- * call looks at every number, length and byte that it is given. This is proved (docs/PROVED.md) of the library that the Rattle kit builds,
- * and of no library that has a function fhpgas_not_proved: that one is plain Rust of the same sources, and the function says of which build.
+ * A call reads and writes nothing but its arguments, takes no memory, starts no thread, and returns. It refuses every number, length and
+ * byte that is not lawful, and then leaves all as it was. This is proved (docs/PROVED.md) of the library that the Rattle kit builds, and of
+ * no library that has a function fhpgas_not_proved: that one is plain Rust of the same sources, and the function says of which build.
  *
  * THE CALLER OWES, for nothing can look at it: a pointer is valid for its length and aligned to its type, the arrays of one call do not
  * overlap, and nobody reads or writes them until it returns. Calls over different arrays may run side by side.
