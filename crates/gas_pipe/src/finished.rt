@@ -45,7 +45,7 @@ impl<G: Gas> Run<G> {
         self.plan.passes()
     }
 
-    /// The number of threads that had stages: as many as workers.
+    /// The plan's number of threads, and of workers.
     pub fn threads(&self) -> u32
         ensures value { result ≡ self.now.threads }
     {

@@ -19,7 +19,7 @@ const CHUNK: usize = 8192;
 const LINE: usize = 128;
 
 /// Collects a text in chunks, hands each full chunk to a writer, and counts the bytes that went
-/// out. After a failure nothing more goes out. It takes no memory.
+/// out. After a failure nothing more goes out.
 #[derive(Drop)]
 pub(crate) struct Sink {
     chunk: ArrayVec<u8, CHUNK>,
