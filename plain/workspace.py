@@ -82,6 +82,9 @@ debug = "line-tables-only"
 [profile.dev.package."*"]
 opt-level = 0
 
+[profile.dev.package.tests_belt]
+opt-level = 3
+
 [profile.dev.package.tests_whole]
 opt-level = 3
 
