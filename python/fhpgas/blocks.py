@@ -11,7 +11,7 @@ from . import forms
 from .fault import Fault, library, real
 from .files import Path, read_bytes, write_whole
 from .fields import AnySize, Size, number_of, pair_checked, size_of
-from .gases import AnyGas, Array, Gas, array_of, gas_named, read_only
+from .gases import AnyGas, Array, Floats, Gas, Ints, array_of, gas_named, read_only
 from .limits import Quantity
 from .planes import Sized
 from .scenes import naming
@@ -190,13 +190,13 @@ class Blocks(Value):
             return NotImplemented
         return self
 
-    def _bounds(self) -> list[Array]:
+    def _bounds(self) -> list[Ints]:
         """The columns and the rows at which blocks begin, and at which the last ones end."""
         sides = zip(self.size, self.block)
         return [np.minimum(np.arange(0, side + step, step), side) for side, step in sides]
 
     @property
-    def cells(self) -> Array:
+    def cells(self) -> Ints:
         """The cells of the blocks of all members, fluid and solid."""
         widths, heights = map(np.diff, self._bounds())
         return self.members * heights[:, None] * widths
@@ -210,39 +210,39 @@ class Blocks(Value):
         return numbers | dict(zip(MOMENTA, momenta))
 
     @functools.cached_property
-    def density(self) -> Array:
+    def density(self) -> Floats:
         """The particles per fluid cell."""
         return _ratio(self.particles, self.fluid)
 
     @property
-    def filling(self) -> Array:
+    def filling(self) -> Floats:
         """The chance per direction, 0 to 1: the density divided by the number of directions."""
         return self.density / self.gas.directions
 
     @functools.cached_property
-    def velocity(self) -> Array:
+    def velocity(self) -> Floats:
         """The mean velocities [2, row, column] of the particles, eastwards and northwards, in
         cells' widths per generation."""
         momenta = (unit * sums for unit, sums in zip(self.gas.units, (self.px, self.py)))
         return read_only(np.stack([_ratio(sums, self.particles) for sums in momenta]))
 
     @property
-    def east(self) -> Array:
+    def east(self) -> Floats:
         """The mean velocity eastwards."""
         return self.velocity[0]
 
     @property
-    def north(self) -> Array:
+    def north(self) -> Floats:
         """The mean velocity northwards."""
         return self.velocity[1]
 
     @property
-    def speed(self) -> Array:
+    def speed(self) -> Floats:
         """The size of the mean velocity."""
         return np.hypot(*self.velocity)
 
     @functools.cached_property
-    def pressure(self) -> Array:
+    def pressure(self) -> Floats:
         """The pressure per cell at equilibrium, to second order in the speed u.
 
         It is c^2 density (1 - k g u^2), where c is the speed of sound, k = 2 - 1/(2 c^2), and
@@ -255,7 +255,7 @@ class Blocks(Value):
         return read_only(square * self.density * (1 - np.where(self.speed > 0, correction, 0)))
 
     @functools.cached_property
-    def vorticity(self) -> Array:
+    def vorticity(self) -> Floats:
         """d north/dx - d east/dy, by differences of the blocks next to a block, of one side if
         the other is solid, empty or past a wall."""
         x, y = self.positions
@@ -267,14 +267,14 @@ class Blocks(Value):
         return read_only(np.where(np.isnan(self.east), np.nan, curl))
 
     @property
-    def edges(self) -> tuple[Array, Array]:
+    def edges(self) -> tuple[Floats, Floats]:
         """The edges of the blocks: x [columns + 1] eastwards, and y [rows + 1] northwards from
         the lower wall, from the top."""
         x, y = self._bounds()
         return x - 0.5 + self.gas.shift / 2, (self.size[1] - y) * self.gas.row_distance
 
     @property
-    def positions(self) -> tuple[Array, Array]:
+    def positions(self) -> tuple[Floats, Floats]:
         """The places of the blocks' middles as in `fhpgas.positions`: x [column] eastwards, y
         [row] northwards from the lower wall."""
         x, y = self.edges
@@ -351,12 +351,12 @@ def _mirrored(is_fluid: Array, reach: int) -> tuple[tuple[Array, Array], Array]:
     return (y[here[0]], x[here[1]]), signs
 
 
-def _ratio(above: Array, below: Array) -> Array:
+def _ratio(above: Array, below: Array) -> Floats:
     with np.errstate(divide="ignore", invalid="ignore"):
         return read_only(np.where(below > 0, above / below, np.nan))
 
 
-def _slope(values: Array, places: Array) -> Array:
+def _slope(values: Floats, places: Floats) -> Floats:
     """The slopes along the first axis, at all places but the first and the last: of the parabola
     through a place and its neighbours, of a line if one of these is nan, or 0 if both are."""
     apart = np.diff(places).reshape(-1, *[1] * (values.ndim - 1))

@@ -14,15 +14,16 @@ from collections.abc import Iterator
 from typing import Any
 
 import numpy as np
+from numpy.typing import NDArray
 
 from .fault import Fault, integer, real
 from .fields import equilibrium
 from .gas_table import CHIRALITIES, TRIPLES
-from .gases import STATES, TOO_FEW, AnyGas, Array, Chirality, Gas, array_of, chirality_named
+from .gases import STATES, TOO_FEW, AnyGas, Chirality, Floats, Gas, Ints, array_of, chirality_named
 from .gases import gas_named
 
 
-def collision_matrix(gas: AnyGas, filling: Any, chirality: Chirality = "seeded") -> Array:
+def collision_matrix(gas: AnyGas, filling: Any, chirality: Chirality = "seeded") -> Floats:
     """What a collision adds to small deviations of the chances from an equal filling, a number or
     an array [..] above 0 and below 1: the matrix [.., b, b] by which the deviations [b] are
     multiplied."""
@@ -34,7 +35,7 @@ def collision_matrix(gas: AnyGas, filling: Any, chirality: Chirality = "seeded")
 
 def generation_matrix(
     gas: AnyGas, filling: Any, wave: Any, chirality: Chirality = "seeded"
-) -> Array:
+) -> NDArray[np.complex128]:
     """What a generation makes of plane waves of small deviations from an equal filling, without
     walls: the matrix [.., b, b] by which the chances [b] of the wave vectors `wave` [.., 2]
     (eastwards and northwards, per cell's width) are multiplied. An eigenvalue exp(-r - i w) is a
@@ -52,7 +53,7 @@ def pair_closure(
     chirality: Chirality = "seeded",
     triples: float = 1.0,
     size: int = 128,
-) -> Iterator[tuple[Array, Array]]:
+) -> Iterator[tuple[Floats, Floats]]:
     """What becomes of a small uniform deviation of the chances from an equal filling, if pairs of
     particles remember each other wherever they are, and three particles do not.
 
@@ -102,7 +103,7 @@ def pair_closure(
     return _pairs(named, collision, chances.astype(float), np.zeros((number, number, cells, cells)))
 
 
-def _pair_collision(gas: Gas, d: float, chirality: Chirality, triples: float) -> Array:
+def _pair_collision(gas: Gas, d: float, chirality: Chirality, triples: float) -> Floats:
     """What a collision makes of small deviations of the chances of a cell and of the correlations
     of its pairs (i, j), i < j: the matrix by which both [b + b(b-1)/2] are multiplied."""
     states = STATES[: 1 << gas.directions]
@@ -119,8 +120,8 @@ def _pair_collision(gas: Gas, d: float, chirality: Chirality, triples: float) ->
 
 
 def _pairs(
-    gas: Gas, collision: Array, chances: Array, pairs: Array
-) -> Iterator[tuple[Array, Array]]:
+    gas: Gas, collision: Floats, chances: Floats, pairs: Floats
+) -> Iterator[tuple[Floats, Floats]]:
     number = gas.directions
     i, j = np.triu_indices(number, 1)
     east, north = gas.momenta.T
@@ -176,7 +177,7 @@ class Flow:
         self._full, self._change = self.gas.bits[collide] > 0, change[collide]
         self._sources = self._streaming(has_walls)
 
-    def _streaming(self, has_walls: bool) -> Array:
+    def _streaming(self, has_walls: bool) -> Ints:
         """Where, in all chances one after the other, the chance of a direction of a cell streams
         from: the neighbour, or if that is solid the opposite direction of the cell itself."""
         rows, columns = self.solid.shape
@@ -190,13 +191,13 @@ class Flow:
         source = np.where(bounces, back, i), np.where(stays, y, row), np.where(stays, x, column)
         return np.ravel_multi_index(source, i.shape)
 
-    def at(self, filling: Any, east: Any = 0.0, north: Any = 0.0) -> Array:
+    def at(self, filling: Any, east: Any = 0.0, north: Any = 0.0) -> Floats:
         """The chances at equilibrium, for a filling and a velocity that numpy spreads over the
         cells [y, x]."""
         fields = (np.broadcast_to(field, self.solid.shape) for field in (filling, east, north))
         return np.where(self.solid, 0.0, equilibrium(self.gas, *fields))
 
-    def collided(self, chances: Array) -> Array:
+    def collided(self, chances: Floats) -> Floats:
         """The chances after a collision, before they stream."""
         empty, after = 1 - chances, chances.copy()
         for full, change in zip(self._full, self._change):
@@ -204,11 +205,11 @@ class Flow:
             after += change[:, None, None] * met
         return after
 
-    def step(self, chances: Array) -> Array:
+    def step(self, chances: Floats) -> Floats:
         """The chances one generation later."""
         return self.collided(chances).ravel()[self._sources]
 
-    def every(self, chances: Array, step: int, count: int) -> Iterator[Array]:
+    def every(self, chances: Floats, step: int, count: int) -> Iterator[Floats]:
         """Yields these chances, and then `count` times the chances `step` generations later, as
         `Lattice.every` does."""
         yield chances
@@ -218,8 +219,8 @@ class Flow:
             yield chances
 
     def driven(
-        self, chances: Array, count: int, every: int, force: float, along: str = "rows"
-    ) -> Iterator[tuple[Array, Array]]:
+        self, chances: Floats, count: int, every: int, force: float, along: str = "rows"
+    ) -> Iterator[tuple[Floats, Floats]]:
         """Yields the chances before and after a force acts that adds up to `force` per fluid cell
         and generation: at the start, and then `count` times after every `every` generations, as
         `fhpgas.driven` does."""
@@ -228,7 +229,7 @@ class Flow:
             yield chances, kicked
             *_, chances = self.every(kicked, every, 1)
 
-    def forced(self, chances: Array, force: float, along: str = "rows") -> Array:
+    def forced(self, chances: Floats, force: float, along: str = "rows") -> Floats:
         """The chances after a force that adds this momentum eastwards to every fluid cell, `along`
         the rows or the directions as `fhpgas.driven` does. A chance that would leave 0 to 1 raises
         a Fault."""
@@ -241,16 +242,16 @@ class Flow:
             raise Fault(f"row {y} column {x} has {TOO_FEW}")
         return after
 
-    def density(self, chances: Array) -> Array:
+    def density(self, chances: Floats) -> Floats:
         """The particles of the cells [y, x]."""
         return chances.sum(0)
 
-    def momentum(self, chances: Array) -> Array:
+    def momentum(self, chances: Floats) -> Floats:
         """The momentum eastwards and northwards [2, y, x] of the cells, in units of a particle of
         speed 1."""
         return np.tensordot(self.gas.velocities.T, chances, 1)
 
-    def velocity(self, chances: Array) -> Array:
+    def velocity(self, chances: Floats) -> Floats:
         """The mean velocity eastwards and northwards [2, y, x] of the particles, nan where a cell
         is solid or empty."""
         with np.errstate(invalid="ignore"):

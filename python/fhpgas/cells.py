@@ -6,7 +6,7 @@ from typing import Any
 import numpy as np
 
 from .fault import Fault
-from .gases import Array
+from .gases import Mask, States
 
 SOLID = 0x80  # in a byte per cell: a solid cell. Any other cell's byte is its state
 NO_CELL = 0xFF
@@ -18,17 +18,17 @@ CODES[ord("0") * 257] = 0
 NUMBER = np.array([(code & SOLID - 1).bit_count() for code in range(256)], np.uint8)  # of particles
 
 
-def codes_of(states: Array, solid: Array) -> Array:
+def codes_of(states: States, solid: Mask) -> States:
     """The bytes of cells with these states, which are 0 where a cell is solid."""
-    return states | solid.view(np.uint8) << 7
+    return states | solid.view(np.uint8) << np.uint8(7)
 
 
-def parts_of(codes: Array) -> tuple[Array, Array]:
+def parts_of(codes: States) -> tuple[States, Mask]:
     """The states and the solid cells of bytes."""
-    return codes & SOLID - 1, (codes >> 7).view(bool)
+    return codes & np.uint8(SOLID - 1), (codes >> np.uint8(7)).view(bool)
 
 
-def lines_of(codes: Array, before: bytes = b"", after: bytes = b"\n") -> bytes:
+def lines_of(codes: States, before: bytes = b"", after: bytes = b"\n") -> bytes:
     """The rows of cells, a byte each, as lines of text with two characters per cell."""
     rows, columns = codes.shape
     lines = np.empty((rows, len(before) + 2 * columns + len(after)), np.uint8)

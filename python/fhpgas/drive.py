@@ -13,7 +13,7 @@ import numpy as np
 
 from .fault import Fault, integer, real, seed_of
 from .fields import lots_of
-from .gases import TOO_FEW, Array
+from .gases import TOO_FEW, Floats, Ints, States
 from .planes import Cells
 from .progress import counted
 
@@ -146,11 +146,11 @@ class _Kicks:
         self.owed = self._uniform(len(self.pairs) * rows).reshape(len(self.pairs), rows) - 0.5
         self.debt = 0.0
 
-    def _uniform(self, number: int) -> Array:
+    def _uniform(self, number: int) -> Floats:
         """Numbers from 0 to less than 1 with 53 random bits."""
         return (self.lots.random_raw(number) >> np.uint64(11)) * 2.0**-53
 
-    def kicked(self, states: Array, wanted: float, keeps_rest: bool) -> tuple[Array, int, float]:
+    def kicked(self, states: States, wanted: float, keeps_rest: bool) -> tuple[States, int, float]:
         """The states after a kick of about this momentum, how many particles it turned, and its
         momentum. What is left is kept for the next kick, or if that asks for it itself only what
         rounding left."""
@@ -171,7 +171,7 @@ class _Kicks:
             np.clip(self.owed, -0.5, 0.5, out=self.owed)
         return after, sum(turned), float(2 * self.momenta @ turned)
 
-    def _turn(self, states: Array, numbers: Array, east: int, west: int) -> Array:
+    def _turn(self, states: States, numbers: Ints, east: int, west: int) -> Ints:
         """Turns so many particles of each row from west to east, or from east to west if the number
         is negative, as far as there are any, and returns how many. From random fluid cells of the
         row the next one, eastwards, whose other direction is empty and which no other took, and

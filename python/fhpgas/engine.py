@@ -29,7 +29,7 @@ from . import gas_table
 from .beside import cores_of_call
 from .fault import Fault, integer
 from .fields import Size, number_of
-from .gases import Array
+from .gases import Ints, Words
 from .groups import group
 from .program import SYSTEM
 from .progress import counted
@@ -106,7 +106,7 @@ def advanced(
     workers: int | None = None,
     progress: bool = False,
     first_row: int = 0,
-) -> Array:
+) -> Words:
     """The planes of a lattice after some generations, by at most so many threads. It may be a part
     of a whole, whole rows from an even one on, whose random bits it draws. A part has walls as any
     lattice. Its rows with at least `generations` rows between them and each cut are the whole's."""
@@ -144,7 +144,7 @@ def advanced(
     return source
 
 
-def sums(lattice: Lattice, width: int, height: int) -> Array:
+def sums(lattice: Lattice, width: int, height: int) -> Ints:
     """The sums [k, row, column] over blocks of `width` x `height` cells of a lattice: fluid cells,
     particles, and momenta eastwards and northwards."""
     (columns, rows), gas = lattice.size, GASES[lattice.gas.name]

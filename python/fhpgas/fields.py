@@ -12,11 +12,11 @@ from typing import TYPE_CHECKING, Any, NamedTuple, TypeAlias
 import numpy as np
 
 from .fault import Fault, integer, seed_of
-from .gases import AnyGas, Array, Gas, array_of, gas_named
+from .gases import AnyGas, Array, Floats, Gas, States, Words, array_of, gas_named
 
 if TYPE_CHECKING:
     from .planes import Sized
-Field = float | Array | Callable[[Array, Array], Any]
+Field = float | Array | Callable[[Floats, Floats], Any]
 STREAMS = "porous", "driven"  # the calls beside `gas` that draw from a seed
 CACHED = 1 << 17  # words of random bits, or cells, that are worked on at a time
 
@@ -83,7 +83,7 @@ def number_of(size: Size, block: tuple[int, int]) -> Size:
 
 def positions(
     size: AnySize, gas: AnyGas = "fhp1", rows: slice = slice(None), columns: slice = slice(None)
-) -> tuple[Array, Array]:
+) -> tuple[Floats, Floats]:
     """The places of the cells' middles, in cells' widths.
 
     Parameters
@@ -113,7 +113,7 @@ def positions(
     return x + named.shift * (y % 2), (height - 0.5 - y) * named.row_distance
 
 
-def equilibrium(gas: AnyGas, filling: Any, east: Any = 0.0, north: Any = 0.0) -> Array:
+def equilibrium(gas: AnyGas, filling: Any, east: Any = 0.0, north: Any = 0.0) -> Floats:
     """The chances that the directions of a cell contain a particle, at equilibrium.
 
     Parameters
@@ -156,7 +156,7 @@ def equilibrium(gas: AnyGas, filling: Any, east: Any = 0.0, north: Any = 0.0) ->
     return chances
 
 
-def numbers_of(name: str, field: Any) -> Array:
+def numbers_of(name: str, field: Any) -> Floats:
     """A field as an array of finite floats. Anything else raises a Fault with its name."""
     values = array_of(f"the field `{name}`", field)
     if values.dtype.kind not in "biuf":
@@ -180,7 +180,7 @@ def _impossible(gas: Gas, d: Array, u: Array, v: Array) -> Fault:
 
 
 @np.errstate(all="ignore")  # an impossible velocity leaves the floats, and is refused
-def _solved(gas: Gas, d: Array, u: Array, v: Array) -> Array:
+def _solved(gas: Gas, d: Floats, u: Floats, v: Floats) -> Floats:
     """Newton's method for (h, q) of all cells, from their values at a small velocity, with steps of
     at most 2 so that it does not overshoot. Sums go direction by direction, without BLAS, so every
     machine rounds alike."""
@@ -207,7 +207,7 @@ def _solved(gas: Gas, d: Array, u: Array, v: Array) -> Array:
     raise _impossible(gas, d, u, v)
 
 
-def _divided(right: tuple[Array, Array, Array], matrix: Array) -> Array:
+def _divided(right: tuple[Floats, Floats, Floats], matrix: Floats) -> Floats:
     """The solutions [3, cells] of three linear equations whose symmetric matrix has the rows (a, b,
     c), (b, d, e), (c, e, f)."""
     (x, y, z), (a, b, c, d, e, f) = right, matrix
@@ -227,12 +227,12 @@ def lots_of(call: str, seed: int) -> np.random.PCG64:
 
 def drawn(
     gas: Gas,
-    fields: Iterable[Array],
+    fields: Iterable[Floats],
     shape: tuple[int, int],
     seed: int,
     first: tuple[int, int] = (0, 0),
     width: int | None = None,
-) -> Array:
+) -> States:
     """States (uint8) of a `shape` of rows and columns, drawn at random from the equilibrium of
     `fields`: filling, east and north, which numpy spreads over the shape. They are those from the
     `first` row and column on of a lattice of so many columns, by default of their own.
@@ -264,7 +264,7 @@ def drawn(
     return states
 
 
-def _lines_of(source: np.random.PCG64, lines: int, taken: int, left_out: int) -> Array:
+def _lines_of(source: np.random.PCG64, lines: int, taken: int, left_out: int) -> Words:
     """The words that are taken of some lines of a source, each with so many that are left out."""
     if not left_out:
         return source.random_raw(lines * taken)

@@ -3,7 +3,7 @@ as docs/FORMATS.md lists them."""
 import functools
 import reprlib
 from collections.abc import Iterable
-from typing import Any, Literal, TypeAlias, cast
+from typing import Any, Literal, TypeAlias, TypeVar, cast
 
 import numpy as np
 from numpy.typing import NDArray
@@ -13,16 +13,20 @@ from .fault import Fault
 from .gas_table import CHIRALITIES
 from .limits import DRIVES
 
-Array = np.ndarray[Any, np.dtype[Any]]
+Array: TypeAlias = NDArray[Any]
+Ints: TypeAlias = NDArray[np.int64]
+Floats: TypeAlias = NDArray[np.float64]
+Words: TypeAlias = NDArray[np.uint64]
 States: TypeAlias = NDArray[np.uint8]
 Mask: TypeAlias = NDArray[np.bool_]
+Same = TypeVar("Same", bound=Array)
 AnyGas: TypeAlias = "Literal['fhp1', 'hpp', 'fhp-rest'] | Gas"
 Chirality: TypeAlias = Literal["seeded", "left", "right"]
 STATES = np.arange(128, dtype=np.uint8)
 TOO_FEW = "too few particles to turn: the flow is too fast, the force too large, the gas too thin"
 
 
-def read_only(array: Array) -> Array:
+def read_only(array: Same) -> Same:
     """The same array, which can no longer be written."""
     array.flags.writeable = False
     return array
@@ -37,7 +41,7 @@ def array_of(what: str, values: Any) -> Array:
     return np.asarray(found.data)
 
 
-def floats_of(what: str, values: Iterable[Any], why: str) -> Array:
+def floats_of(what: str, values: Iterable[Any], why: str) -> Floats:
     """Values as a new array of floats. Others raise a Fault, of `why` or as `array_of` does."""
     try:
         return array_of(what, [*values]).astype(float)
@@ -93,7 +97,7 @@ class Gas:
         self.directions, self.row_distance = len(momenta), float(units[1])
         self.is_square = units[0] == units[1]
         self.shift = 0.0 if self.is_square else 0.5
-        self.momenta, self.units = map(read_only, map(np.array, (momenta, units)))
+        self.momenta, self.units = (read_only(np.array(each)) for each in (momenta, units))
         self.velocities = read_only(self.momenta * self.units)
         (x, y), odd = self.momenta.T, np.arange(2)[:, None]
         right = x * units[0] + self.shift * (odd - (odd + y) % 2)
@@ -115,7 +119,7 @@ class Gas:
         return self.name
 
     @functools.cache
-    def collisions(self, side: str) -> Array:
+    def collisions(self, side: str) -> States:
         """The states [128] after a collision, with head-on pairs that turn to this side, "left" or
         "right"."""
         if side not in ("left", "right"):
@@ -144,7 +148,7 @@ class Gas:
         """Whether collisions take random bits."""
         return chirality == "seeded" and not self.is_square
 
-    def changes(self, chirality: Chirality) -> Array:
+    def changes(self, chirality: Chirality) -> Floats:
         """What a collision adds to the particles [128, b] of a state, on average over the sides."""
         sides = CHIRALITIES[chirality_named(chirality)]
         return np.mean([self.bits[self.collisions(side)] for side in sides], 0) - self.bits

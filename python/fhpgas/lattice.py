@@ -14,7 +14,7 @@ from .fault import Fault, integer, seed_of
 from .fields import AnySize
 from .files import Path, is_npz
 from .gases import AnyGas, Array, Chirality, Gas, array_of, chirality_named, gas_named, mask
-from .gases import GASES, Mask, States, read_only
+from .gases import GASES, Ints, Mask, States, Words, read_only
 from .planes import Cells, Walls, block_ones
 from .plans import planned
 from .program import call, program_path
@@ -106,7 +106,7 @@ class Lattice(Value):
         return self.walls.solid
 
     @property
-    def planes(self) -> Array:
+    def planes(self) -> Words:
         """The states as bits [y, direction, word], as `include/fhpgas.h` describes them."""
         return self.cells.planes
 
@@ -201,7 +201,7 @@ class Lattice(Value):
             return read_only(engine.sums(self, *self.size)[2:, 0, 0] * self.gas.units)
         return read_only(self.counts() @ self.gas.velocities)
 
-    def counts(self, width: Side = None, height: Side = None) -> Array:
+    def counts(self, width: Side = None, height: Side = None) -> Ints:
         """The numbers of particles by direction.
 
         Parameters
@@ -384,7 +384,7 @@ class Lattice(Value):
     every, long_run, resume = long_runs.every, long_runs.long_run, long_runs.resume
 
 
-def _states_of(values: Array, gas: Gas) -> Array:
+def _states_of(values: Array, gas: Gas) -> States:
     """Values as states of a gas, in a new array. Others raise a Fault."""
     allowed = f"a state of {gas} is an integer from 0 to {(1 << gas.directions) - 1}"
     if values.dtype.kind not in "iub":

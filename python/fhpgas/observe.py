@@ -6,7 +6,7 @@ from typing import Any, NamedTuple
 import numpy as np
 
 from .fault import Fault
-from .gases import AnyGas, Array, array_of, floats_of, gas_named, mask
+from .gases import AnyGas, Array, Floats, array_of, floats_of, gas_named, mask
 from .lattice import Lattice
 
 FORCED = "upper", "lower", "solid"
@@ -221,7 +221,7 @@ def mean_of_series(values: Iterable[Any]) -> SeriesMean:
     return SeriesMean(*(part[()] for part in (samples.mean(0), error, independent)))
 
 
-def _samples(values: Iterable[Any]) -> Array:
+def _samples(values: Iterable[Any]) -> Floats:
     why = "the mean is of numbers, or of arrays of one shape (blocks are added: sum(..))"
     samples = floats_of("values", values, why)
     if len(samples) < 2:

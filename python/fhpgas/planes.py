@@ -7,7 +7,7 @@ from typing import Any, NamedTuple
 
 import numpy as np
 
-from .gases import Array, Gas, read_only
+from .gases import Array, Gas, Ints, Mask, States, Words, read_only
 
 CACHED = 1 << 18  # cells whose bits are packed or unpacked at a time
 BITS = np.uint64(1), np.uint64(2), np.uint64(4)
@@ -21,7 +21,7 @@ def _strips(rows: int, columns: int) -> Iterator[slice]:
     return (slice(top, top + step) for top in range(0, rows, step))
 
 
-def packed(states: Array, planes: int) -> Array:
+def packed(states: States, planes: int) -> Words:
     """States [y, x] as planes."""
     rows, columns = states.shape
     words = np.zeros((rows, planes, -(-columns // 64)), np.uint64)
@@ -31,7 +31,7 @@ def packed(states: Array, planes: int) -> Array:
     return words
 
 
-def unpacked(words: Array, columns: int) -> Array:
+def unpacked(words: Words, columns: int) -> States:
     """Planes as states [y, x]."""
     rows, planes, _ = words.shape
     states = np.zeros((rows, columns), np.uint8)
@@ -43,7 +43,7 @@ def unpacked(words: Array, columns: int) -> Array:
     return states
 
 
-def block_ones(words: Array, columns: int, width: int, height: int) -> Array:
+def block_ones(words: Words, columns: int, width: int, height: int) -> Ints:
     """The ones [plane, row, column] of planes of so many columns in blocks of `width` x `height`
     cells. If blocks begin with bytes, the ones of each byte are counted in the byte, up to 31 rows
     at a time."""
@@ -83,22 +83,22 @@ class Cells(Sized):
     that is not there is made when it is asked for."""
 
     def __init__(
-        self, gas: Gas, states: Array | None = None, planes: Array | None = None, shape: Any = ()
+        self, gas: Gas, states: States | None = None, planes: Words | None = None, shape: Any = ()
     ):
         self.directions, self.shape = gas.directions, shape if states is None else states.shape
         known = {"states": states, "planes": planes}.items()
         vars(self).update({name: read_only(form) for name, form in known if form is not None})
 
     @functools.cached_property
-    def states(self) -> Array:
+    def states(self) -> States:
         return read_only(unpacked(self.planes, self.shape[1]))
 
     @functools.cached_property
-    def planes(self) -> Array:
+    def planes(self) -> Words:
         return read_only(packed(self.states, self.directions))
 
     @functools.cached_property
-    def numbers(self) -> Array:
+    def numbers(self) -> Ints:
         """The numbers of particles by direction."""
         rows, columns = self.shape
         return read_only(block_ones(self.planes, columns, columns, rows)[:, 0, 0])
@@ -119,16 +119,16 @@ class Links(NamedTuple):
 class Walls:
     """The solid cells of a lattice, which all lattices of its run share."""
 
-    def __init__(self, solid: Array):
+    def __init__(self, solid: Mask):
         self.solid = read_only(solid)
         self._links = dict[Gas, Links]()
 
     @functools.cached_property
-    def planes(self) -> Array:
+    def planes(self) -> Words:
         return read_only(packed(self.solid.view(np.uint8), 1))
 
     @functools.cached_property
-    def open(self) -> Array:
+    def open(self) -> Words:
         """The plane of the cells that are not solid."""
         return read_only(packed((~self.solid).view(np.uint8), 1))
 
@@ -148,7 +148,7 @@ class Walls:
         return self._links[gas]
 
 
-def _links(solid: Array, gas: Gas, parity: int, direction: int) -> Links:
+def _links(solid: Mask, gas: Gas, parity: int, direction: int) -> Links:
     """The links of the rows of a parity and a direction."""
     rows, columns = solid.shape
     right, down = gas.steps[parity, gas.opposite[direction]]

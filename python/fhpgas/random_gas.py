@@ -6,7 +6,7 @@ import numpy as np
 
 from . import fields
 from .fault import Fault, seed_of
-from .gases import AnyGas, Array, Chirality, gas_named, mask
+from .gases import AnyGas, Chirality, Mask, gas_named, mask
 from .lattice import Lattice
 from .theory import sound_speed
 
@@ -80,7 +80,7 @@ def draw_gas(
     return Lattice(cells, np.broadcast_to(walls, cells.shape), named, chirality, seed)
 
 
-def _shape_of(size: Any, solid: Array, shapes: list[tuple[int, ...]]) -> tuple[int, ...]:
+def _shape_of(size: Any, solid: Mask, shapes: list[tuple[int, ...]]) -> tuple[int, ...]:
     """The rows and columns of a gas: of its size, its solid cells, or fields that have both."""
     if size is not None:
         return fields.size_of(size).shape

@@ -14,7 +14,7 @@ import numpy as np
 
 from .fault import Fault, integer, library, real
 from .fields import CACHED, AnySize, lots_of, size_of
-from .gases import AnyGas, Array, Mask, array_of, floats_of, gas_named
+from .gases import AnyGas, Ints, Mask, array_of, floats_of, gas_named
 
 FAR = 1e6  # cells, of a corner of a polygon
 
@@ -53,7 +53,7 @@ def disc(size: AnySize, column: int, row: int, radius: float, gas: AnyGas = "fhp
     return solid
 
 
-def _stencil(size: tuple[int, int], parity: int, radius: float, gas: AnyGas) -> Array:
+def _stencil(size: tuple[int, int], parity: int, radius: float, gas: AnyGas) -> Ints:
     """The rows and columns [2, cells] from the middle of a disc to its cells, in even or odd rows.
     Four times the square of a distance is an integer on both lattices, so nothing is rounded."""
     (columns, rows), named = size, gas_named(gas)
@@ -241,7 +241,7 @@ def bitmap(
     return inside & dark[down.clip(0, len(dark) - 1), right.clip(0, dark.shape[1] - 1)]
 
 
-def _dark(picture: Any) -> Array:
+def _dark(picture: Any) -> Mask:
     """Whether the pixels [y, x] of a picture are dark: black, or darker than half of white, and not
     transparent."""
     if not isinstance(picture, (str, os.PathLike)):
@@ -270,7 +270,7 @@ def check_inside(what: str, block: Sequence[int], size: tuple[int, int]) -> None
         raise Fault(f"{what} leaves {channel} or is empty: {x} {y} {w} {h}")
 
 
-def rectangles(solid: Array) -> list[list[int]]:
+def rectangles(solid: Mask) -> list[list[int]]:
     """Rectangles [x, y, w, h] that cover every solid cell once: runs along a row, joined to equal
     runs in the rows below."""
     last, found = dict[tuple[int, int], list[int]](), list[list[int]]()

@@ -17,7 +17,7 @@ from .boltzmann import collision_matrix, pair_closure
 from .fault import Fault, integer, real
 from .fields import equilibrium
 from .gas_table import GASES
-from .gases import AnyGas, Array, Chirality, Gas, array_of, chirality_named, gas_named
+from .gases import AnyGas, Chirality, Floats, Gas, array_of, chirality_named, gas_named
 
 
 def sound_speed(gas: AnyGas) -> float:
@@ -72,7 +72,7 @@ def isotropic(gas: AnyGas) -> Gas:
     return named
 
 
-def checked(filling: Any) -> Array:
+def checked(filling: Any) -> Floats:
     """A filling as an array of floats. Any that is not above 0 and below 1 raises a Fault."""
     d = array_of("a filling", filling)
     if d.dtype.kind not in "biuf" or not ((d > 0) & (d < 1)).all():
@@ -80,7 +80,7 @@ def checked(filling: Any) -> Array:
     return d.astype(float)
 
 
-def relaxed(gas: AnyGas, filling: Any, chirality: Chirality, mode: Array) -> Any:
+def relaxed(gas: AnyGas, filling: Any, chirality: Chirality, mode: Any) -> Any:
     """The share of a mode [b] that collisions undo in a generation, in the Boltzmann equation
     linearized about equal filling: the eigenvalue of the collision operator, of which the mode must
     be an eigenvector."""
@@ -88,7 +88,7 @@ def relaxed(gas: AnyGas, filling: Any, chirality: Chirality, mode: Array) -> Any
     return -(undone @ mode.conj()) / (abs(mode) ** 2).sum()
 
 
-def _turning(gas: Gas, times: int) -> Array:
+def _turning(gas: Gas, times: int) -> Any:
     """The mode [b] of the moving directions that turns so many times as the direction turns once: 2
     is the shear, 3 the staggered mode."""
     i = np.arange(gas.directions)
@@ -181,7 +181,7 @@ def pair_viscosity(
     chirality: Chirality = "seeded",
     triples: float = 1.0,
     size: int = 128,
-) -> Array:
+) -> Floats:
     """The kinematic shear viscosity with the correlations of pairs, without a free number: ring
     kinetic theory (see T. R. Kirkpatrick, M. H. Ernst, Phys. Rev. A 44 (1991) 8051).
 
@@ -205,7 +205,7 @@ def pair_viscosity(
     return running_viscosity([next(pairs)[0] @ stress for _ in range(last + 1)])
 
 
-def running_viscosity(stress: Any) -> Array:
+def running_viscosity(stress: Any) -> Floats:
     """The kinematic shear viscosity from a uniform stress xy that decays in a gas at rest, or from
     the correlation of the stress in its noise, up to each generation: (1/2 + C(1) + .. + C(t)) / 4,
     where C(t) is the share that is left (M. S. Green, R. Kubo; docs/DERIVATION.md).

@@ -33,7 +33,7 @@ from .blocks import Blocks
 from .cells import SOLID, codes_of, parts_of
 from .fault import Fault, integer, seed_of
 from .files import Path
-from .gases import AnyGas, Array, Chirality, Gas, chirality_named, gas_named, mask
+from .gases import AnyGas, Chirality, Gas, Ints, States, chirality_named, gas_named, mask
 from .lattice import Lattice
 from .limits import MOST_SIDE, Quantity
 from .planes import unpacked
@@ -49,7 +49,7 @@ class Rules(NamedTuple):
     chirality: Chirality
     seed: int
 
-    def lattice(self, cells: Array, generation: int = 0) -> Lattice:
+    def lattice(self, cells: States, generation: int = 0) -> Lattice:
         states, solid = parts_of(cells)
         return Lattice(states, solid, *self, generation)
 
@@ -319,7 +319,7 @@ def _divided(size: fields.Size, tile: Any, rules: Rules) -> tuple[tuple[int, ...
 # -- what workers compute
 
 
-def _drawn(rules: Rules, size: fields.Size, known: dict[str, Any], block_info: Any) -> Array:
+def _drawn(rules: Rules, size: fields.Size, known: dict[str, Any], block_info: Any) -> States:
     """The cells of a block of what `fhpgas.draw_gas` draws."""
     (top, below), (left, right) = block_info[None]["array-location"]
     places = fields.positions(size, rules.gas, slice(top, below), slice(left, right))
@@ -338,14 +338,14 @@ def _drawn(rules: Rules, size: fields.Size, known: dict[str, Any], block_info: A
 
 
 def _advanced(
-    rules: Rules, generation: int, steps: int, first_rows: list[int], cells: Array, block_id: Any
-) -> Array:
+    rules: Rules, generation: int, steps: int, first_rows: list[int], cells: States, block_id: Any
+) -> States:
     """The cells of a tile and its margins after some generations, of which the tile is right."""
     part, first_row = rules.lattice(cells, generation), first_rows[block_id[0]]
     planes = engine.advanced(part, steps, 1, first_row=first_row)
-    return unpacked(planes, cells.shape[1]) | cells & SOLID
+    return unpacked(planes, cells.shape[1]) | cells & np.uint8(SOLID)
 
 
-def _sums(rules: Rules, block: tuple[int, int], cells: Array) -> Array:
+def _sums(rules: Rules, block: tuple[int, int], cells: States) -> Ints:
     blocks = rules.lattice(cells).blocks(*block)
     return np.stack([blocks.fluid, blocks.particles, blocks.px, blocks.py])
