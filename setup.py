@@ -4,7 +4,6 @@ import ast
 import pathlib
 import re
 import shutil
-import sys
 
 from setuptools import Distribution, setup
 from setuptools.command.build_py import build_py
@@ -29,10 +28,6 @@ IS_ELF = [path for path in PLACES if path.is_file() and path.read_bytes()[:4] ==
 PROGRAM = IS_ELF[:1]
 CONTENTS = [path.read_bytes() for path in ENGINES + PROGRAM]
 MACHINES = {62: "x86_64", 183: "aarch64"}  # by the number in byte 18 of an ELF file
-NOTHING = """
-This package has no program and no engine, because nothing is built here: it draws scenes and pictures,
-and runs no lattice. `make plain`, which needs Rust, builds both. Then install it again.
-"""
 
 
 def platform():
@@ -72,8 +67,6 @@ class Build(build_py):
         super().run()
         for path in PROGRAM:
             shutil.copy(path, pathlib.Path(self.build_lib) / "fhpgas/fhpgas")
-        if not CONTENTS:
-            print(NOTHING, file=sys.stderr)
 
 
 class Package(Distribution):

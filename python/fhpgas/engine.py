@@ -31,7 +31,7 @@ from .fault import Fault, integer
 from .fields import Size, number_of
 from .gases import Ints, Words
 from .groups import group
-from .program import SYSTEM
+from .program import GET, SYSTEM
 from .progress import counted
 
 if TYPE_CHECKING:
@@ -161,8 +161,7 @@ def sums(lattice: Lattice, width: int, height: int) -> Ints:
 def _call(name: str, *given: Any) -> int:
     """What a call of the library returns. An array is passed with its length."""
     if (found := library()) is None:
-        has = "its wheel for Linux on x86-64 has one"
-        raise Fault(f"this package has no engine for {SYSTEM}, so it runs no lattice ({has})")
+        raise Fault(f"this package has no engine for {SYSTEM}, so it runs no lattice: {GET}")
     pairs = ((word, word.size) if isinstance(word, np.ndarray) else (word,) for word in given)
     return int(getattr(found, f"fhpgas_{name}")(*itertools.chain.from_iterable(pairs)))
 

@@ -23,6 +23,7 @@ ABOVE = OWN.parents[2]  # the repository, or the unpacked archive
 LAUNCHER = ABOVE / "tools/program"  # of a repository
 COMMAND = b"from fhpgas.program import"  # in the script that pip makes of `main`
 SYSTEM = f"{platform.system()} on {platform.machine()}"
+GET = "take a wheel for Linux on x86-64, or in a clone `make plain` and then `pip install .`"
 TIED = "setpriv", "--pdeathsig", "KILL"  # of util-linux
 _starting = threading.Lock()  # for the first call of a program, which may build it
 
@@ -34,13 +35,10 @@ def program_path() -> pathlib.Path:
     The launcher of a repository builds it first."""
     found = os.environ.get("FHPGAS") or next(_programs(), None)
     if not found:
-        why = f"this package has none for {SYSTEM} (its wheel for Linux on x86-64 has one)"
+        why = f"this package has none for {SYSTEM}, nor do FHPGAS or the PATH name one: {GET}"
         if next(OWN.parent.glob("libfhpgas-*"), None):
             here = " ".join(platform.libc_ver())
-            why = (
-                f"this package has the engine alone, for C libraries before the program's ({here})"
-            )
-        why += ", nor do FHPGAS or the PATH name one"
+            why = f"this package has the engine alone, for C libraries before the program's: {here}"
         raise Fault(f"the program fhpgas is not found, which reads scenes: {why}")
     path = pathlib.Path(found).absolute()
     if not path.is_file():

@@ -1,6 +1,5 @@
 #!/usr/bin/env python3
-"""Tries plain/strip.py on worked examples and on all sources, and compares the names of Rattle's library and crates in use with
-plain/names.txt, which lists what plain/shim has. --write lists them anew. Ends with the counts."""
+"""Tries plain/strip.py on worked examples and on all sources. Ends with the counts."""
 
 import re
 import sys
@@ -11,13 +10,8 @@ import needs
 
 sys.path.append(str(needs.ROOT / "plain"))
 import strip
-import workspace
 
-LIST = needs.ROOT / "plain/names.txt"
 SOURCES = sorted((needs.ROOT / "crates").glob("*/src/**/*.rt"))
-USED = {name for uses in workspace.crates().values() for name in uses}
-OTHERS = USED - workspace.crates().keys()  # crates that are not built here
-PATH = re.compile(rf"(?<![\w:.])(?:std|{'|'.join(sorted(OTHERS))})::(?:\w+::)*(?:\w+|\{{[^}}]*\}})")
 
 # Sources, and below each its Rust by hand (\\n is in a text), without the names that each file gets.
 EXAMPLES = r"""
@@ -61,19 +55,6 @@ def squeezed(text):
     return re.sub(r"\s*\n\s*\n*", "\n", re.sub(r" +", " ", text)).strip()
 
 
-def names_in(text):
-    """The paths of a source, each brace written out."""
-    for found in PATH.findall(re.sub(r"//[^\n]*", "", strip.without_proofs(text))):
-        before, _, last = found.partition("{")
-        for name in last.rstrip("}").split(",") if last else [""]:
-            if name.strip() or not last:
-                yield before + re.sub(r" as \w+", "", name.strip())
-
-
-def names():
-    return sorted({name for path in SOURCES for name in names_in(path.read_text())})
-
-
 class Strip(unittest.TestCase):
     def test_examples(self):
         lines = iter(EXAMPLES.strip().split("\n"))
@@ -103,12 +84,5 @@ class Strip(unittest.TestCase):
             with self.subTest(source), self.assertRaises(strip.NotPlain):
                 strip.plain(source)
 
-    def test_names(self):
-        listed = LIST.read_text().split()
-        self.assertEqual(names(), listed, "give plain/shim what is new, then run this with --write")
 
-
-if sys.argv[1:] == ["--write"]:
-    LIST.write_text("".join(f"{name}\n" for name in names()))
-else:
-    needs.run_tests()
+needs.run_tests()
