@@ -10,6 +10,7 @@ import argparse
 import functools
 import importlib.util
 import inspect
+import io
 import math
 import os
 import pathlib
@@ -25,7 +26,7 @@ import fhpgas
 from . import drawing
 from .fault import Fault, Parser, Usage, add_words, library, number, one_line_faults, to_write
 from .fault import whole, word
-from .files import is_npz, of_file, read_bytes
+from .files import is_npz, read_bytes, write_whole
 from .gas_table import GASES
 from .limits import DRIVES, FFMPEG, FIELDS, LAST_OF_SCENE, MOST_GENERATIONS, MOST_SEED
 from .limits import PARTICLES, PILLOW
@@ -73,8 +74,9 @@ def source(path: str, asked: argparse.Namespace) -> fhpgas.Lattice | fhpgas.Bloc
 
 
 def shows() -> bool:
-    """Whether a command shows its progress: on a terminal, if tqdm is there."""
-    return sys.stderr.isatty() and bool(importlib.util.find_spec("tqdm"))
+    """Whether a command shows its progress: on a terminal that moves its cursor, if tqdm is there."""
+    moves = sys.stderr.isatty() and os.environ.get("TERM") != "dumb"
+    return moves and bool(importlib.util.find_spec("tqdm"))
 
 
 def steps(last: int, step: int) -> int:
@@ -124,8 +126,8 @@ def picture(asked: argparse.Namespace) -> None:
         figure = fhpgas.strip(sources, asked.what, **options)
     else:
         figure = sources[0].plot(asked.what, axes_of(sources[0]), **options).figure
-    with of_file(asked.file):
-        figure.savefig(asked.file, dpi=asked.dpi)
+    figure.savefig(made := io.BytesIO(), format=asked.file.rpartition(".")[2], dpi=asked.dpi)
+    write_whole(asked.file, made.getvalue())
     if images := [ax.images[0].get_array() for ax in figure.axes if ax.images and ax.get_xlabel()]:
         least, most = min(it.min() for it in images), max(it.max() for it in images)
         print(f"{asked.what} from {least:.4g} to {most:.4g}")

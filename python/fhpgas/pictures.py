@@ -6,11 +6,14 @@ blocks without a value are grey. Fields with a sign are blue below 0 and red abo
 run from dark to light. Colour-blind readers can tell both apart."""
 from __future__ import annotations
 
+import contextlib
 import io
 import os
 import pathlib
 import reprlib
 import shutil
+import subprocess
+import tempfile
 from collections.abc import Iterable, Iterator
 from typing import TYPE_CHECKING, Any, NamedTuple, TypeAlias
 
@@ -351,13 +354,17 @@ def film(
     bar(draw(many[0], ax, options), label, ax)
     ax.figure.draw_without_rendering()
     ax.figure.set_layout_engine("none")  # so that nothing moves
-    with of_file(path):
-        if suffix in PILLOW:
-            return write_frames(path, redrawn(ax, many, options), fps, dpi)
-        writer = library("matplotlib.animation").FFMpegWriter(fps=fps)
-        with writer.saving(ax.figure, os.fspath(path), dpi):
+    if suffix in PILLOW:
+        return write_frames(path, redrawn(ax, many, options), fps, dpi)
+    writer = library("matplotlib.animation").FFMpegWriter(fps=fps)
+    with of_file(path), tempfile.TemporaryDirectory() as room:
+        made, failed = pathlib.Path(room, f"film{suffix}"), subprocess.CalledProcessError
+        with contextlib.suppress(failed), writer.saving(ax.figure, os.fspath(made), dpi):
             for _ in redrawn(ax, many, options):
                 writer.grab_frame()
+        if b"moov" not in (written := made.read_bytes()):  # it comes last
+            raise Fault(f"{path}: ffmpeg wrote no whole film to {room}")
+        write_whole(path, written)
 
 
 def film_suffix(path: Path) -> str:

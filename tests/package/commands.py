@@ -311,7 +311,7 @@ class Commands(Case):
                 self.assertEqual(done.stderr.count("\n"), 1)
 
     def test_an_output_that_takes_no_more_is_one_line(self):
-        """It is closed, full at once or after a part, or takes ASCII only. So is memory, and the file of a film."""
+        """It is closed, full at once or after a part, or takes ASCII only. So is memory, and the file of a film or a picture."""
         wide = "draw blocks --width 2048 --wind 0.1"
         (self.room / "letters.toml").write_text('gas = "\u00e9\u2603"\ncells = [".."]\n')
         for words, said in (
@@ -330,9 +330,13 @@ class Commands(Case):
                 found = done.returncode, said in done.stderr, "Traceback" in done.stderr
                 self.assertEqual(found, (1, True, False), done)
         full = OSError(28, "No space left")
-        with unittest.mock.patch("PIL.Image.Image.save", side_effect=full):
-            found = self.command("film a.toml a.gif --every 5 --until 5")
-        self.assertEqual(found, (1, "", "fhpgas-tools: a.gif: No space left\n"))
+        films = ["full.gif", *["full.mp4"] * bool(shutil.which("ffmpeg"))]
+        cases = {name: f"film a.toml {name} --every 5 --until 5" for name in films}
+        for name, words in (cases | {"full.png": "picture density full.png a.toml"}).items():
+            with self.subTest(words=words), unittest.mock.patch("os.fsync", side_effect=full):
+                found = self.command(words)
+                self.assertEqual(found, (1, "", f"fhpgas-tools: {name}: No space left\n"))
+                self.assertFalse(pathlib.Path(name).exists())
 
     def test_drawn_scenes_are_as_asked(self):
         """The second reader counts the same cells as the program, and the scenes have what was asked for."""
