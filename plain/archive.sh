@@ -9,7 +9,7 @@ mkdir -p "$1"
 folder=$(realpath -- "$1")
 cd "$(dirname "$0")/.."
 top=$PWD
-"$(tests/lib/needs.py | sed -n 1p)" -c 'import pip, setuptools, wheel' 2> /dev/null ||
+"$(tests/lib/needs.py | sed -n 1p)" -c 'import pip, wheel' 2> /dev/null ||
     { echo 'a wheel needs pip and wheel: apt-get install python3-pip python3-wheel' >&2; exit 1; }
 version=$(sed -n 's/^version: //p' CITATION.cff)
 room=$(mktemp -d)
