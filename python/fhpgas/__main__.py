@@ -74,7 +74,7 @@ def source(path: str, asked: argparse.Namespace) -> fhpgas.Lattice | fhpgas.Bloc
 
 
 def shows() -> bool:
-    """Whether a command shows its progress: on a terminal that moves its cursor, if tqdm is there."""
+    """Whether a command shows its progress: on a terminal that is not dumb, if tqdm is there."""
     moves = sys.stderr.isatty() and os.environ.get("TERM") != "dumb"
     return moves and bool(importlib.util.find_spec("tqdm"))
 
