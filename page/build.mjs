@@ -20,9 +20,9 @@ function compare(name, version) {
   if (version !== VERSIONS[name]) console.error(`this is not ${name} ${VERSIONS[name]}`);
 }
 
-/** A module with all that it imports, as one script. */
+/** A module with all that it imports, as one script, or a style sheet. */
 function bundled(name) {
-  return run("esbuild", [name, "--bundle", "--format=iife", "--charset=utf8", "--target=es2022", "--legal-comments=none", "--minify-whitespace", "--minify-syntax"]);
+  return run("esbuild", [name, "--bundle", "--minify", "--format=iife", "--charset=utf8", "--target=es2022", "--legal-comments=none"]);
 }
 
 /** The kernel, deflated, in base64: as it was if it is the same module, or if nothing here can build it. */
@@ -42,7 +42,6 @@ function kernel() {
 compare("esbuild", spawnSync("esbuild", ["--version"], { encoding: "utf8" }).stdout?.trim());
 const [, version] = readFileSync(new URL("../CITATION.cff", import.meta.url), "utf8").match(/^version: (.*)$/m) ?? [];
 const script = `\n${bundled("page.js").replace("@VERSION@", () => version)}\n`, hash = createHash("sha256").update(script).digest("base64");
-const style = readFileSync(`${room}style.css`, "utf8").trimEnd();
-const parts = { STYLE: style, KERNEL: kernel(), WORKER: bundled("worker.js"), PAGE: script.trim(), HASH: hash };
+const parts = { STYLE: bundled("style.css"), KERNEL: kernel(), WORKER: bundled("worker.js"), PAGE: script.trim(), HASH: hash };
 const html = readFileSync(`${room}index.html`, "utf8").replace(/@([A-Z]+)@/g, (_, name) => parts[name]);
 writeFileSync(target, html);
