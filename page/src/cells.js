@@ -2,6 +2,17 @@
 import { SOLID, eastOf } from "./gases.js";
 import { bits } from "./sums.js";
 
+const WALL = 7; // the bit of SOLID
+
+/** Each bit of 32 states as a word, of states x, x + 8, x + 16 and x + 24 at once. */
+function spread(states, from, words) {
+  words.fill(0);
+  for (let x = 0, at = from; x < 8; x++, at++) {
+    const four = states[at] | states[at + 8] << 8 | states[at + 16] << 16 | states[at + 24] << 24;
+    for (let i = 0; i < 8; i++) words[i] |= (four >>> i & 0x01010101) << x;
+  }
+}
+
 export class Cells {
   /** @param {Kernel} kernel */
   constructor(kernel) {
@@ -48,14 +59,13 @@ export class Cells {
   }
 
   fill(states) {
-    const { kernel: { cells, solid, per }, width, height, gas: { directions } } = this;
-    cells.fill(0);
-    solid.fill(0);
-    for (let y = 0, at = 0; y < height; y++) {
-      for (let x = 0; x < width; x++, at++) {
-        const state = states[at], word = x >> 5, mask = 1 << (x & 31);
-        if (state & SOLID) solid[y * per + word] |= mask;
-        else for (let i = 0; state >> i; i++) if (state >> i & 1) cells[(y * directions + i) * per + word] |= mask;
+    const { kernel: { cells, solid, per }, width, height, gas: { directions } } = this, words = new Int32Array(8);
+    for (let y = 0; y < height; y++) {
+      for (let x = 0; x < width; x += 32) {
+        const within = width - x < 32 ? (1 << width - x) - 1 : -1, word = x >> 5;
+        spread(states, y * width + x, words);
+        solid[y * per + word] = words[WALL] & within;
+        for (let i = 0; i < directions; i++) cells[(y * directions + i) * per + word] = words[i] & within;
       }
     }
   }

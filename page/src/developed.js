@@ -26,14 +26,16 @@ export function meansText({ numbers }, { directions, units }, filling) {
 export const meansOf = (start) => MEANS.find(({ text, ...flow }) => Object.keys(flow).every((key) => flow[key] === start[key]));
 
 /** Draws the fluid cells of a lattice from the equilibria of the blocks. */
-export function fillDeveloped({ gas, drive, cells: { width, height } }, states, { text, filling }) {
+export function fillDeveloped({ gas, drive, cells: { width } }, states, { text, filling }) {
   const [wide, tall] = blockOf(width), columns = Math.ceil(width / wide), { directions } = gas, chances = [];
   for (let at = 0; at < text.length; at += 3) {
     const [more, u, v] = STEPS.map((step, k) => step * (LETTERS.indexOf(text[at + k]) - ZERO));
     chances.push(equilibrium(gas, filling + more, u, v));
   }
-  for (let at = 0; at < states.length; at++) {
-    const y = Math.floor(at / width), here = chances[Math.floor(y / tall) * columns + Math.floor((at - y * width) / wide)];
-    if (states[at] !== SOLID) for (let i = 0; i < directions; i++) if (drive.draw() < here[i]) states[at] |= 1 << i;
+  for (let first = 0; first < states.length; first += wide) {
+    const y = Math.floor(first / width), here = chances[Math.floor(y / tall) * columns + (first % width) / wide];
+    for (let at = first; at < first + wide; at++) {
+      if (states[at] !== SOLID) for (let i = 0; i < directions; i++) if (drive.draw() < here[i]) states[at] |= 1 << i;
+    }
   }
 }

@@ -90,10 +90,12 @@ export class Kernel {
   wallsChanged() {
     const { gas: { moves, directions, momenta }, solid, width, height, per } = this, words = Math.ceil(width / 32);
     const rowOf = (y) => solid.subarray(y * per, y * per + words), wall = new Int32Array(words).fill(-1), pushes = [];
+    const isOpen = Array.from({ length: height }, (_, y) => rowOf(y).every((word) => !word));
     for (let y = 0; y < height; y++) {
       const inside = rowOf(y);
       moves.forEach(([down, even, odd], i) => {
         const row = y + down, [push] = momenta[i], at = (y * directions + i) * per;
+        if (isOpen[row]) return;
         const behind = row < 0 || row === height ? wall : shifted(rowOf(row), row & 1 ? odd : even, width);
         behind.forEach((word, k) => word & ~inside[k] && push && pushes.push(at + k, word & ~inside[k], 2 * push));
       });

@@ -6,8 +6,7 @@ const RING = 40; // generations after which a burst is a ring
 export const MOST_MACH = 0.4; // above it the density follows the speed
 
 const signed = (text) => text.replace(/^-(?=.*[1-9])/, "−").replace("-", "");
-const english = new Intl.NumberFormat("en"); // toLocaleString makes one at each call
-export const count = (value) => english.format(value);
+export const count = (whole) => String(whole).replace(/\B(?=(\d{3})+$)/g, ","); // Intl takes long to begin
 export const fixed = (value, digits) => signed(value.toFixed(digits));
 export const round = (value, digits = 3) =>
   signed(String(Math.abs(value) < 1e-9 ? 0 : Number(value.toPrecision(digits))));

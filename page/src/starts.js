@@ -35,18 +35,15 @@ export function drawn(make, start) {
   const flow = new Flow(make(gas, width, height), { chirality, seed, generation: 0, wind: keep ? wind : null });
   const all = (isInside, change) => {
     for (let y = 0, at = 0; y < height; y++) {
-      for (let x = 0; x < width; x++, at++) if (isInside(x + eastOf(gas, y), y * gas.apart)) change(at);
+      const east = eastOf(gas, y), south = y * gas.apart;
+      for (let x = 0; x < width; x++, at++) if (isInside(x + east, south)) change(at);
     }
   };
   const rates = (part, u = 0) => equilibrium(gas, part, u).map((chance) => Math.round(1000 * chance));
   if (shape in SOLIDS) all(SOLIDS[shape](width, tall, radius), (at) => (states[at] = SOLID));
   if (shape === "porous") putGrains(flow, states, tall, radius);
-  flow.cells.fill(states);
-  flow.shape = flow.kernel.solid.slice();
-  const across = 32 * flow.kernel.per;
-  for (const bit of bitsOf(lengths, across * height)) {
-    if (bit % across < width) states[Math.floor(bit / across) * width + (bit % across)] ^= SOLID;
-  }
+  const across = 32 * flow.kernel.per, unlike = [...bitsOf(lengths, across * height)].filter((bit) => bit % across < width);
+  for (const bit of unlike) states[Math.floor(bit / across) * width + (bit % across)] ^= SOLID;
   const developed = isDeveloped ? meansOf(start) : null;
   if (shape in PARTICLES) states[width + 1] = PARTICLES[shape];
   else if (developed) fillDeveloped(flow, states, developed);
@@ -56,6 +53,8 @@ export function drawn(make, start) {
     all(isInText(text, width, tall), (at) => (states[at] = inner[at]));
   }
   flow.cells.fill(states);
+  flow.shape = flow.kernel.solid.slice();
+  for (const bit of unlike) flow.shape[bit >> 5] ^= 1 << bit;
   if (shape === "sound") dense(flow, { at: [width / 2, tall / 2], radius });
   flow.begin();
   flow.isMessage = shape === "text";
