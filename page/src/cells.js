@@ -2,17 +2,6 @@
 import { SOLID, eastOf } from "./gases.js";
 import { bits } from "./sums.js";
 
-const WALL = 7; // the bit of SOLID
-
-/** Each bit of 32 states as a word, of states x, x + 8, x + 16 and x + 24 at once. */
-function spread(states, from, words) {
-  words.fill(0);
-  for (let x = 0, at = from; x < 8; x++, at++) {
-    const four = states[at] | states[at + 8] << 8 | states[at + 16] << 16 | states[at + 24] << 24;
-    for (let i = 0; i < 8; i++) words[i] |= (four >>> i & 0x01010101) << x;
-  }
-}
-
 export class Cells {
   /** @param {Kernel} kernel */
   constructor(kernel) {
@@ -45,7 +34,11 @@ export class Cells {
   }
 
   states() {
-    return Uint8Array.from({ length: this.number }, (_, at) => this.state(at));
+    const { kernel, kernel: { bytes }, gas: { directions } } = this;
+    kernel.unpack(1, kernel.walls);
+    const solid = bytes.slice();
+    kernel.unpack(directions, kernel.states);
+    return bytes.map((state, at) => (solid[at] ? SOLID : state));
   }
 
   flip(at, bits) {
@@ -59,15 +52,11 @@ export class Cells {
   }
 
   fill(states) {
-    const { kernel: { cells, solid, per }, width, height, gas: { directions } } = this, words = new Int32Array(8);
-    for (let y = 0; y < height; y++) {
-      for (let x = 0; x < width; x += 32) {
-        const within = width - x < 32 ? (1 << width - x) - 1 : -1, word = x >> 5;
-        spread(states, y * width + x, words);
-        solid[y * per + word] = words[WALL] & within;
-        for (let i = 0; i < directions; i++) cells[(y * directions + i) * per + word] = words[i] & within;
-      }
-    }
+    const { kernel, kernel: { bytes }, gas: { directions } } = this;
+    for (let at = 0; at < states.length; at++) bytes[at] = states[at] >> 7; // solid or not
+    kernel.pack(1, kernel.walls);
+    for (let at = 0; at < states.length; at++) bytes[at] = states[at] & ~SOLID;
+    kernel.pack(directions, kernel.states);
   }
 
   kept() {

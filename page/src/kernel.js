@@ -47,9 +47,11 @@ export class Kernel {
     this.states = this.room((height * gas.directions * this.per) / 2);
     this.walls = this.room((height * this.per) / 2);
     this.work = this.room(Number(work));
-    const seen = (room) => new Int32Array(this.calls.memory.buffer, Number(room[0]), 2 * Number(room[1]));
+    this.unpacked = [this.room(Math.ceil((width * height) / 8))[0], this.number(width * height)]; // a byte per cell
+    const { buffer } = this.calls.memory, seen = (room) => new Int32Array(buffer, Number(room[0]), 2 * Number(room[1]));
     this.cells = seen(this.states);
     this.solid = seen(this.walls);
+    this.bytes = new Uint8Array(buffer, Number(this.unpacked[0]), width * height);
     this.wallsChanged();
   }
 
@@ -61,12 +63,25 @@ export class Kernel {
     return [at, words].map(this.number);
   }
 
-  /** Some generations: all particles collide, then move. The call returns 0 if it refuses nothing. */
+  call(name, ...values) {
+    const status = this.calls[`fhpgas_${name}`](...values);
+    if (status) throw new Error(`the engine refuses to ${name} with status ${status}`);
+  }
+
+  /** Some generations: all particles collide, then move. */
   advance(count, generation, chirality, seed) {
     const { gas, width, height, walls, states, work } = this, rooms = [...walls, ...states, ...work];
     const when = [BigInt(seed), BigInt(generation), BigInt(count)], size = [width, height, 0];
-    const status = this.calls.fhpgas_advance(gas.number, CHIRALITIES[chirality], ...when, ...size, ...rooms);
-    if (status) throw new Error(`the engine refuses to advance with status ${status}`);
+    this.call("advance", gas.number, CHIRALITIES[chirality], ...when, ...size, ...rooms);
+  }
+
+  /** Takes planes from the bits of the bytes. */
+  pack(planes, room) {
+    this.call("pack", planes, this.width, this.height, ...this.unpacked, ...room);
+  }
+
+  unpack(planes, room) {
+    this.call("unpack", planes, this.width, this.height, ...room, ...this.unpacked);
   }
 
   /** Makes of the state of every cell what a table says: of cells x, x + 8, x + 16 and x + 24 at once. */
