@@ -7,15 +7,13 @@ import { spelled } from "./message.js";
 import { count } from "./numbers.js";
 import { paintNumbers } from "./panel.js";
 import { repaint, tellNumbers, update } from "./screen.js";
-import { $, amount, asked, chosen, element, head, look, marks, motion, preset, shown, view } from "./state.js";
+import { $, amount, asked, chosen, element, head, look, marks, motion, preset, shown, tell, view } from "./state.js";
 import { go, move } from "./time.js";
-import { tell } from "./wire.js";
 import { hideNotes, introduce, note } from "./words.js";
 
 const isStill = matchMedia("(prefers-reduced-motion: reduce)").matches, bodyClass = document.body.classList;
 
-/** The starts of the controls. @param {string} [lengths] what was drawn */
-function startsOf(lengths) {
+function startsOf(lengths = "") {
   const { gases, shapes } = preset(), [width, height] = sizes();
   return shapes.map((shape, k) => ({ width, height, shape, lengths, text: chosen.text, gas: gases.length > 1 ? gases[k] : $("gas").value,
     chirality: $("chirality").value, keep: $("keep").checked,
@@ -23,7 +21,6 @@ function startsOf(lengths) {
     filling: amount("fill"), wind: amount("wind"), radius: amount("radius") }));
 }
 
-/** @param {boolean} [hasLength] @param {string} [lengths] what was drawn */
 export function start(hasLength = false, lengths = "") {
   const why = hasText() && shown.frames.length ? refusal(chosen.text) : "";
   if (why) return void note(why, "bad", 9);
@@ -41,7 +38,6 @@ export function start(hasLength = false, lengths = "") {
   go(!isStill && !rests);
 }
 
-/** A new start with the text of the field, if there is room for it. */
 function write() {
   const text = spelled($("text").value), why = refusal(text);
   if (why) return void note(why, "bad", 9);

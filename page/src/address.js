@@ -31,7 +31,6 @@ export function setControl(id, value) {
   return isSet;
 }
 
-/** Whether the start of the controls is a message. */
 export const hasText = () => preset().shapes[0] === "text";
 
 export function stateText() {
@@ -44,7 +43,6 @@ export function stateText() {
   return state.toString();
 }
 
-/** Columns and rows. */
 export const sizes = () => $("size").value.split(" x ").map(Number);
 
 /** Why the lattice of the controls has no room for a text, or "". */

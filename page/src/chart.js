@@ -4,8 +4,6 @@ import { count, round, strouhal } from "./numbers.js";
 import { LEAST_PERIODS, periodOf } from "./probe.js";
 import { $, amount, head, marks, setText } from "./state.js";
 
-const COLOURS = { u: "#2b8cd6", v: "#e0702a" }; // the style sheet has them too
-
 function linesOf(numbers) {
   const { g, turnover, speed } = numbers;
   const { blockage, incoming } = head(), radius = marks.probe?.radius ?? 0, length = amount("length");
@@ -50,6 +48,6 @@ export function paintChart(numbers) {
     write(c, count(at), X(at), box.bottom + 18, { font: "13px", align: "center" });
   }
   for (const part of ["u", "v"]) {
-    line(c, samples.map((sample) => [X(sample.generation), Y(sample[part])]), COLOURS[part], 2);
+    line(c, samples.map((sample) => [X(sample.generation), Y(sample[part])]), theme[part], 2);
   }
 }

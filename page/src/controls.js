@@ -18,14 +18,15 @@ export const space = { isDown: false, isUsed: false }; // held, for a drag
 let all = /** @type {Control[]} */ ([]);
 
 /** @param {Control} control */
-function made({ id, key, label, kind, style = "", options = [], attributes = {} }) {
+function made({ id, key, label, kind, said, style = "", options = [], attributes = {} }) {
   const shortcut = element("kbd", { "aria-hidden": "true" }, KEY_NAMES[key] ?? key), name = element("span", {}, label);
   const own = { id, title: HELP[id], "aria-label": label, "aria-keyshortcuts": key === " " ? "Space" : key };
   if (kind === "button") return element("button", { ...own, class: style, type: "button" }, name, shortcut);
   const list = options.map(([value, text]) => element("option", { value }, text));
   const type = kind === "check" ? "checkbox" : kind;
   const input = kind === "list" ? element("select", own, ...list) : element("input", { type, ...own, ...attributes });
-  return element("label", { for: id, title: HELP[id] }, element("span", {}, name, shortcut), input, element("output", { for: id }));
+  const value = said ? [element("output", { for: id })] : [];
+  return element("label", { for: id, title: HELP[id] }, element("span", {}, name, shortcut), input, ...value);
 }
 
 export function makeControls(groups, changed) {

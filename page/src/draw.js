@@ -1,18 +1,17 @@
 // Drawing on a canvas.
 
-const FONT = '"Segoe UI", Roboto, "Helvetica Neue", "DejaVu Sans", system-ui, sans-serif';
-
 const LETTERS = 15; // pixels for which the canvases are laid out
 
 /** The colours of the page, of the light or the dark scheme, and the size of its letters as a multiple of the usual one. */
-export const theme = { isDark: false, unit: 1, ink: "", paper: "", wall: "", arrow: "", meets: "", faint: "" };
-const COLOURS = Object.keys(theme).slice(2);
+export const theme = { isDark: false, unit: 1, font: "", ink: "", paper: "", wall: "", arrow: "", meets: "", faint: "", u: "", v: "" };
+const COLOURS = Object.keys(theme).slice(3);
 
 export function readTheme() {
   const style = getComputedStyle(document.documentElement);
   for (const name of COLOURS) theme[name] = style.getPropertyValue(`--${name}`).trim();
   theme.isDark = matchMedia("(prefers-color-scheme: dark)").matches;
   theme.unit = parseFloat(style.fontSize) / LETTERS;
+  theme.font = style.fontFamily;
 }
 
 /** The context of a canvas in CSS pixels, with the pixels of the screen. A new size makes it empty. */
@@ -36,7 +35,7 @@ export function imageOf(canvas, width, height, put) {
 }
 
 export function write(c, text, x, y, { font, align = "left", colour = theme.ink, most = Infinity }) {
-  Object.assign(c, { font: `${font} ${FONT}`, textAlign: align, fillStyle: colour });
+  Object.assign(c, { font: `${font} ${theme.font}`, textAlign: align, fillStyle: colour });
   c.fillText(text, x, y, Math.min(most, 1e4));
 }
 

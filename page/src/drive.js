@@ -3,21 +3,11 @@
 
 const MEMORY = 1000; // generations of a mean over time
 
-/** A mean over the last generations, of all if they are few. It is null before the first. */
-class Mean {
-  found = /** @type {number | null} */ (null);
-  count = 0;
-
-  add(value) {
-    this.count++;
-    this.found = (this.found ?? 0) + (value - (this.found ?? 0)) / Math.min(this.count, MEMORY);
-  }
-}
-
 export class Drive {
   wind = /** @type {number | null} */ (null);
-  velocity = new Mean(); // of the particles before they are turned
-  force = new Mean(); // momentum that was added per fluid cell and generation
+  count = 0; // of generations with this wind, and means over the last of them
+  velocity = /** @type {number | null} */ (null); // of the particles before they are turned
+  force = /** @type {number | null} */ (null); // momentum that was added per fluid cell and generation
   fluid = 0;
   particles = 0;
   px = 0;
@@ -29,7 +19,7 @@ export class Drive {
   }
 
   keep(wind) {
-    Object.assign(this, { wind, velocity: new Mean(), force: new Mean() });
+    Object.assign(this, { wind, count: 0, velocity: null, force: null });
   }
 
   /** A random number below 1, by xorshift. */
@@ -60,14 +50,15 @@ export class Drive {
     this.px += kernel.pushed();
     const wanted = ((this.wind ?? 0) * this.particles - this.px * unit) / 2, sign = Math.sign(wanted);
     const from = sign > 0 ? west : 0, steps = Math.round(Math.abs(wanted));
-    this.velocity.add((this.px * unit) / (this.particles || 1));
+    const velocity = (this.px * unit) / (this.particles || 1), force = (2 * sign * steps) / this.fluid;
     for (let kick = 0; kick < steps; kick++) {
       const at = cells.pick(this.draw, from, west - from);
       if (at === undefined) return false;
       flow.flip(at, 1 | 1 << west);
     }
     this.px += 2 * east * sign * steps;
-    this.force.add((2 * sign * steps) / this.fluid);
+    const part = 1 / Math.min(++this.count, MEMORY), moved = (mean, value) => (mean ?? 0) + part * (value - (mean ?? 0));
+    Object.assign(this, { velocity: moved(this.velocity, velocity), force: moved(this.force, force) });
     return true;
   }
 }

@@ -9,15 +9,13 @@ import { Stroke } from "./tools.js";
 
 const MOST_UNDO = 50, MOST_STARTS = 4; // of which each keeps a lattice
 
-/** @typedef {{ what: string, undo: () => void }} Done what was done, as the button says it */
-
 export class Experiment {
   make = /** @type {MakeKernel} */ (() => { throw new Error("there is no kernel"); });
   watched = /** @type {Watched[]} */ ([]);
   state = ""; // of the controls, with these flows
   serial = 0;
   asked = 0; // the start of the page's that was made last
-  past = /** @type {Done[]} */ ([]); // what can be undone
+  past = /** @type {{ what: string, undo: () => void }[]} */ ([]); // what can be undone, as the button says it
   strokes = /** @type {Map<Flow, Stroke>} */ (new Map()); // what is being drawn
 
   /** Takes the module of a text: all flows go on in it. */
@@ -110,7 +108,7 @@ export class Experiment {
     this.each((flow) => {
       const stroke = this.strokes.get(flow) ?? new Stroke();
       this.strokes.set(flow, stroke);
-      stroke.add(flow, piece);
+      stroke.set(flow, flow.cells.near(piece.from, piece.to, piece.radius), piece.solid);
       if (piece.end) stroke.tell(flow, piece.solid);
     });
     if (!piece.end) return;
@@ -137,7 +135,7 @@ export class Experiment {
   }
 
   undo() {
-    this.each(() => 0);
+    for (const watched of this.watched) watched.twin = null;
     this.past.pop()?.undo();
   }
 }

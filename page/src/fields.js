@@ -16,21 +16,19 @@ const RED_BLUE = [palette("053061 2166ac 4393c3 92c5de d1e5f0 f7f7f7 fddbc7 f4a5
   palette("9eb0ff 72a5e8 3c87bf 2a5f85 183a50 12181f 351508 5f2410 91442c c8725f ffacac")];
 const ORANGE_PURPLE = [palette("2d004b 542788 8073ac b2abd2 d8daeb f7f7f7 fee0b6 fdb863 e08214 b35806 7f3b08"),
   palette("d8b8f5 a98bd6 7c62ad 513f78 2c2444 16161c 33220f 5e3d12 905f17 c68a2f ffc46b")];
-const ACROSS = 4; // of TimeMean.smooth
 const APART = 4, SAMPLES = 4000; // blocks of TimeMean.noise
-const fromZero = (most) => [0, most / 2, most];
 
-// The fields, by name: all that there is of each. `fill` writes the value of each block, NaN if it has none. `all` is the
-// largest value, if there is one.
+/**
+ * All that there is of each field: `fill` writes the value of each block, NaN if it has none; `most` is the largest value, if
+ * there is one.
+ * @type {Record<string, { key: string, legend: string, palette: Int32Array[], fill: (means: TimeMean, out: Float64Array) => void,
+ *   isSigned?: boolean, most?: number }>}
+ */
 export const FIELDS = {
-  speed: { key: "1", label: "speed", legend: "speed |u|, cells per generation", palette: SEQUENTIAL, isSigned: false,
-    ends: fromZero, fill: speed },
-  vorticity: { key: "2", label: "vorticity", legend: "vorticity, 1/generation: red anticlockwise", palette: RED_BLUE,
-    isSigned: true, ends: (most) => [-most, 0, most], fill: vorticity },
-  difference: { key: "6", label: "difference", legend: "cells that differ from the gas without the turn",
-    palette: SEQUENTIAL, isSigned: false, ends: fromZero, fill: difference, all: 1 },
-  density: { key: "3", label: "density", legend: "filling d, from its mean", palette: ORANGE_PURPLE, isSigned: true,
-    ends: (most, middle) => [-most, middle, most], fill: density },
+  speed: { key: "1", legend: "speed |u|, cells per generation", palette: SEQUENTIAL, fill: speed },
+  vorticity: { key: "2", legend: "vorticity, 1/generation: red anticlockwise", palette: RED_BLUE, fill: vorticity, isSigned: true },
+  difference: { key: "6", legend: "cells that differ from the gas without the turn", palette: SEQUENTIAL, fill: difference, most: 1 },
+  density: { key: "3", legend: "filling d, from its mean", palette: ORANGE_PURPLE, fill: density, isSigned: true },
 };
 
 function speed({ u, v }, out) {
@@ -60,7 +58,8 @@ function vorticity({ columns, rows, width, height, gas: { apart }, tall, u, v },
 }
 
 function density(means, out) {
-  const [fluid, counts] = means.smoothed([0, 1]), { parts: [cells], gas: { directions }, middle } = means;
+  const { parts: [cells, particles], gas: { directions }, middle } = means;
+  const [fluid, counts] = [cells, particles].map((part) => means.smoothed(part));
   for (let i = 0; i < out.length; i++) out[i] = cells[i] ? counts[i] / fluid[i] / directions - middle : NaN;
 }
 
@@ -102,8 +101,8 @@ export class TimeMean {
   middle = 0; // the mean filling
   times = 0; // that the parts are smoothed
   parts = /** @type {Float64Array[]} */ ([]); // fluid cells, particles, momenta
-  /** @type {Float64Array[]} the same, smoothed, and one that a loop writes to. They are made when they are needed. */
-  smooth = [];
+  smooth = /** @type {Map<Float64Array, Float64Array>} */ (new Map()); // the same, smoothed, made when they are needed
+  across = new Float64Array(0); // that smoothing writes to
   values = new Float64Array(0); // of the field that is shown
   u = this.values;
   v = this.u;
@@ -122,8 +121,8 @@ export class TimeMean {
     const isNew = columns !== this.columns || rows !== this.rows, memory = isNew ? 0 : kept, weight = 1 - memory;
     Object.assign(this, { columns, rows, width, height });
     if (isNew) {
-      [this.u, this.v, this.values, ...this.parts] = Array.from({ length: 7 }, () => new Float64Array(columns * rows));
-      this.smooth = [];
+      [this.u, this.v, this.values, this.across, ...this.parts] = Array.from({ length: 8 }, () => new Float64Array(columns * rows));
+      this.smooth.clear();
       this.pixels = new Uint8Array(columns * rows);
     }
     const [cells, particles, px, py] = this.parts;
@@ -142,21 +141,20 @@ export class TimeMean {
     for (const part of [...this.parts.slice(2), this.u, this.v]) part.forEach((value, i) => (part[i] = -value));
   }
 
-  smoothed(which) {
-    const { parts, smooth, columns, rows, times } = this;
-    if (!times) return which.map((k) => parts[k]);
-    for (const k of [...which, ACROSS]) smooth[k] ??= new Float64Array(columns * rows);
-    for (const k of which) {
-      smooth[k].set(parts[k]);
-      for (let time = 0; time < times; time++) smoothen(smooth[k], smooth[ACROSS], columns, rows);
-    }
-    return which.map((k) => smooth[k]);
+  smoothed(part) {
+    const { smooth, across, columns, rows, times } = this, made = smooth.get(part) ?? new Float64Array(part.length);
+    if (!times) return part;
+    smooth.set(part, made);
+    made.set(part);
+    for (let time = 0; time < times; time++) smoothen(made, across, columns, rows);
+    return made;
   }
 
   /** Finds the velocity of the blocks, smoothed some times. It is NaN if one is solid or empty. */
   look(times) {
     this.times = times;
-    const { gas: { units: [east, north] }, parts: [cells], u, v } = this, [counts, px, py] = this.smoothed([1, 2, 3]);
+    const { gas: { units: [east, north] }, parts: [cells, ...others], u, v } = this;
+    const [counts, px, py] = others.map((part) => this.smoothed(part));
     for (let i = 0; i < u.length; i++) {
       const isEmpty = !cells[i] || !counts[i];
       u[i] = isEmpty ? NaN : (px[i] * east) / counts[i];
@@ -179,7 +177,7 @@ export class TimeMean {
 
   /** What is shown of a field: a byte per block, 0 if it is solid, and the largest value of the colours. */
   shown(name) {
-    const { fill, isSigned, all } = FIELDS[name], { pixels, values } = this;
+    const { fill, isSigned, most: all } = FIELDS[name], { pixels, values } = this;
     fill(this, values);
     const most = (this.ranges[name] = all ?? rangeOf(values, this.ranges[name]));
     const zero = isSigned ? 128 : 1, scale = (isSigned ? 127 : 254) / most;

@@ -4,7 +4,6 @@ import { $, view } from "./state.js";
 let recorder = /** @type {MediaRecorder | null} */ (null); // of a film
 export const isFilming = () => recorder !== null;
 
-/** @param {Blob} blob @param {string} name */
 export function save(blob, name) {
   const link = Object.assign(document.createElement("a"), { href: URL.createObjectURL(blob), download: name });
   link.click();

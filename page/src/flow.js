@@ -20,10 +20,7 @@ export class Flow {
   summed = { changes: -1, totals: [0, 0, 0, 0] };
   history = new History();
 
-  /**
-   * @param {Kernel} kernel
-   * @param {{ chirality: Chirality, seed: string, generation: number, wind?: number | null }} course
-   */
+  /** @param {Kernel} kernel @param {{ chirality: Chirality, seed: string, generation: number, wind?: number | null }} course */
   constructor(kernel, { chirality, seed, generation, wind = null }) {
     this.kernel = kernel;
     this.gas = kernel.gas;
@@ -78,8 +75,7 @@ export class Flow {
     return this.direction > 0 ? this.generation : this.turnedAt - this.generation;
   }
 
-  // -- edits: what they flip is remembered with its generation
-
+  /** What edits flip is remembered with its generation. */
   flip(at, bits) {
     if (this.direction < 0) this.isDisturbed = true;
     else if (this.canTurn) this.history.flip(this.generation, this.cells, at, bits);
@@ -114,8 +110,6 @@ export class Flow {
     else this.begin();
   }
 
-  // -- time
-
   advance(generations) {
     if (this.direction < 0) this.recede(generations);
     else if (this.drive.wind === null) this.run(generations);
@@ -146,8 +140,6 @@ export class Flow {
     this.advance(1);
     if (this.direction !== direction) this.turn();
   }
-
-  // -- the way back
 
   /**
    * All particles are turned. A generation collides and then moves, backwards it moves and then collides: so particles
@@ -186,18 +178,13 @@ export class Flow {
   undo() {
     for (let patch; (patch = this.history.pop(this.generation)); ) {
       const { flips, turning } = patch, walls = wallsBefore(flips);
-      if (turning) this.turnOtherwise(turning);
+      if (turning) this.reverse();
       else if (this.isDisturbed) this.undoWalls(walls);
       else this.undoFlips(flips);
+      if (turning) Object.assign(this, { chirality: turning }).reverse();
       for (const stroke of [...patch.strokes, ...this.late]) for (const at of walls.keys()) stroke.flips.delete(at);
       if (walls.size) this.kernel.wallsChanged();
     }
-  }
-
-  turnOtherwise(chirality) {
-    this.reverse();
-    this.chirality = chirality;
-    this.reverse();
   }
 
   /** Cell by cell, since a collision and a turn need no neighbours. */

@@ -111,7 +111,7 @@ export class Watched {
     const sums = flow.sums(view.block, flow.tall(view.block));
     if (generations || !velocity.generations) velocity.add(generations, sums);
     const mean = this.means(view, generations, sums), [fluid, particles, px, py] = flow.totals(), all = particles || 1;
-    const [blown, force] = direction > 0 ? [drive.velocity.found, drive.force.found] : [null, null];
+    const [blown, force] = direction > 0 ? [drive.velocity, drive.force] : [null, null];
     const { columns, rows, width, height, u, v } = velocity.mean, { fastest, blockage, incoming } = velocity;
     cells.isBuilt = false;
     flow.notes = [];

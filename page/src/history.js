@@ -32,7 +32,6 @@ export class History {
     return this.top.patches[this.top.patches.length - 1];
   }
 
-  /** From here on the way back is exact. */
   begin(generation, cells) {
     this.segments = [];
     this.grow(generation, cells);

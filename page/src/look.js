@@ -1,11 +1,10 @@
 // Where one looks: at a part of the lattice, near or far.
 import { setControl } from "./address.js";
 import { repaint, screen, update } from "./screen.js";
-import { $, NEAR, amount, chosen, head, look, paneWidth, shown, view } from "./state.js";
+import { $, NEAR, amount, chosen, head, look, paneWidth, shown, tell, view } from "./state.js";
 import { stripHeight } from "./strip.js";
 import { BLOCKS, SPANS } from "./table.js";
 import { go, isSlow } from "./time.js";
-import { tell } from "./wire.js";
 import { note } from "./words.js";
 
 function lookFrom(place) {

@@ -11,12 +11,11 @@ import { count } from "./numbers.js";
 import { paintNumbers, said } from "./panel.js";
 import { listenToPointers } from "./pointer.js";
 import { repaint, screen, update } from "./screen.js";
-import { $, asked, chosen, element, head, look, marks, motion, shown, view } from "./state.js";
+import { $, asked, chosen, element, head, look, marks, motion, shown, tell, view, worker } from "./state.js";
 import { stripHeight } from "./strip.js";
 import { tableOf } from "./table.js";
 import { take } from "./taken.js";
 import { setRunning } from "./time.js";
-import { tell, worker } from "./wire.js";
 import { note, notes } from "./words.js";
 
 const KERNELS = ["The kernel in this page computes the cells: fhpgas by plain Rust, not proved, free to pass on",

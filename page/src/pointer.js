@@ -2,8 +2,7 @@
 import { space } from "./controls.js";
 import { zoom } from "./look.js";
 import { repaint } from "./screen.js";
-import { GAP, $, amount, chosen, look, marks, paneWidth, shown, view } from "./state.js";
-import { tell } from "./wire.js";
+import { $, GAP, amount, chosen, look, marks, paneWidth, shown, tell, view } from "./state.js";
 import { hideNotes } from "./words.js";
 
 const ARROWS = { ArrowLeft: [-1, 0], ArrowRight: [1, 0], ArrowUp: [0, -1], ArrowDown: [0, 1] };

@@ -6,9 +6,8 @@ import { contextOf, theme, within, write } from "./draw.js";
 import { numbersOf } from "./numbers.js";
 import { paintNumbers } from "./panel.js";
 import { paintLattice, paneOf } from "./picture.js";
-import { $, GAP, amount, head, look, motion, paneWidth, preset, shown, view } from "./state.js";
+import { $, GAP, amount, head, look, motion, paneWidth, preset, shown, tell, view } from "./state.js";
 import { paintStrip, stripHeight } from "./strip.js";
-import { tell } from "./wire.js";
 
 const TOLD_EVERY = 100; // milliseconds: faster than anybody reads
 export const panes = [paneOf(), paneOf()];

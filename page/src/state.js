@@ -1,4 +1,4 @@
-// What the page shows and does now.
+// What the page shows and does now, and the wire to its worker, which has the lattices.
 import { PRESETS } from "./presets.js";
 
 export const NEAR = 10; // pixels across a cell from which single cells are shown
@@ -41,6 +41,9 @@ export const marks = {
 
 /** @param {string} id @returns {any} */
 export const $ = (id) => document.getElementById(id);
+export const worker = new Worker(URL.createObjectURL(new Blob([$("worker").textContent], { type: "text/javascript" })));
+/** @type {Tell} */
+export const tell = (name, value) => worker.postMessage({ name, value });
 export const view = () => /** @type {HTMLCanvasElement} */ ($("view"));
 export const amount = (id) => Number($(id).value);
 export const head = () => shown.frames[0];

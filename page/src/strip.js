@@ -41,13 +41,14 @@ function paintWords(c, x, stage, wide) {
 }
 
 function paintLegend(c, frame, left, top, bar) {
-  const { legend: words, ends, isSigned } = FIELDS[frame.field], colours = coloursOf(frame.field);
+  const { legend: words, isSigned } = FIELDS[frame.field], colours = coloursOf(frame.field), { field, most } = frame;
+  const middle = field === "density" ? frame.middle : 0, ends = isSigned ? [-most, middle, most] : [0, most / 2, most];
   c.globalAlpha = frame.cells ? 0.3 : 1;
   c.drawImage(imageOf(legend, 255, 1, (out) => out.set(colours.subarray(1))), left, top + 24, bar, 14);
   Object.assign(c, { globalAlpha: 1, lineWidth: 1, strokeStyle: theme.ink });
   c.strokeRect(left + 0.5, top + 24.5, bar - 1, 13);
   write(c, words, left + bar, top + 18, { font: "600 13px", align: "right" });
-  ends(frame.most, frame.middle).forEach((value, k) => {
+  ends.forEach((value, k) => {
     const text = value === frame.middle && isSigned ? fixed(value, 3) : round(value);
     write(c, text, left + (bar * k) / 2, top + 54, { font: "13px", align: ["left", "center", "right"][k] });
   });

@@ -55,8 +55,8 @@ export const tableOf = (acts) => /** @type {any} */ ([
     half("Backspace", "undo", "undo", acts.undo, { isOff: () => !shown.undoes, text: () => `undo ${shown.undoes}` }),
     half("4", "clear", "clear", acts.clear)] },
   { title: "See", place: "panel", controls: [
-    ...Object.entries(FIELDS).map(([id, { key, label }]) =>
-      half(key, id, label, () => acts.field(id),
+    ...Object.entries(FIELDS).map(([id, { key }]) =>
+      half(key, id, id, () => acts.field(id),
         { isPressed: () => chosen.field === id, isHidden: () => id === "difference" && !hasCone() })),
     slider("s", "smooth", "mean of", [0, BLOCKS.length - 1, 1], acts.look, wide),
     slider("a", "span", "and of", [0, SPANS.length - 1, 1], acts.look, (value) => `${count(SPANS[value])} gen.`),

@@ -1,7 +1,6 @@
 // How time goes on: the worker runs alone, or at a slow pace the page shows every generation and asks for the next.
 import { repaint, update } from "./screen.js";
-import { $, motion, shown } from "./state.js";
-import { tell } from "./wire.js";
+import { $, motion, shown, tell } from "./state.js";
 
 export const isSlow = () => $("pace").value.endsWith(" s");
 

@@ -28,10 +28,6 @@ export class Stroke {
     this.moved += found.moved;
   }
 
-  add(flow, { from, to, radius, solid }) {
-    this.set(flow, flow.cells.near(from, to, radius), solid);
-  }
-
   tell({ notes }, isDrawn) {
     const cells = count(this.cells), moved = count(this.moved);
     notes.push(isDrawn ? `${cells} cells are solid now. ${moved} particles were beneath and ${NEAREST}.`

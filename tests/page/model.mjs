@@ -52,7 +52,7 @@ function history(number) {
     if (kind < 2) flow.advance(random.below(40));
     else if (kind < 4) {
       const stroke = new Stroke();
-      stroke.add(flow, { from: place(), to: place(), radius: 1 + random.below(4), solid: random.chance() < 0.7 });
+      stroke.set(flow, flow.cells.near(place(), place(), 1 + random.below(4)), random.chance() < 0.7);
       strokes.push(stroke);
     } else if (kind === 4) dense(flow, { at: place(), radius: 1 + random.below(5) });
     else if (kind === 5) flipOne(flow, place());
@@ -293,7 +293,7 @@ tried("Darcy's law", () => {
     const flow = flowOf({ width: 512, height: 256, filling: 0.3, wind, keep: true, shape: "porous", radius: 8, seed }), found = { force: 0, u: 0 };
     for (let g = 0; g < 5000; g += 1000) { // the drive's means are of the last 1,000 generations
       flow.advance(1000);
-      if (g >= 1000) Object.assign(found, { force: found.force + flow.drive.force.found, u: found.u + flow.drive.velocity.found });
+      if (g >= 1000) Object.assign(found, { force: found.force + flow.drive.force, u: found.u + flow.drive.velocity });
     }
     return sum + found.force / found.u / 4;
   }, 0));
@@ -304,7 +304,7 @@ const porous = { width: 256, height: 128, wind: 0.1, keep: true, shape: "porous"
 const atPace = (pace) => {
   const flow = flowOf(porous);
   for (let g = 0; g < 400; g += pace) flow.advance(pace);
-  return [flow.drive.velocity.found, flow.drive.force.found];
+  return [flow.drive.velocity, flow.drive.force];
 };
 tried("porous flow", () => {
   const forces = [1, 10, 200].map(atPace);
