@@ -26,8 +26,10 @@ const APART = 4, SAMPLES = 4000; // blocks of TimeMean.noise
  */
 export const FIELDS = {
   speed: { key: "1", legend: "speed |u|, cells per generation", palette: SEQUENTIAL, fill: speed },
-  vorticity: { key: "2", legend: "vorticity, 1/generation: red anticlockwise", palette: RED_BLUE, fill: vorticity, isSigned: true },
-  difference: { key: "6", legend: "cells that differ from the gas without the turn", palette: SEQUENTIAL, fill: difference, most: 1 },
+  vorticity: { key: "2", legend: "vorticity, 1/generation: red anticlockwise", palette: RED_BLUE, fill: vorticity,
+    isSigned: true },
+  difference: { key: "6", legend: "cells that differ from the gas without the turn", palette: SEQUENTIAL, fill: difference,
+    most: 1 },
   density: { key: "3", legend: "filling d, from its mean", palette: ORANGE_PURPLE, fill: density, isSigned: true },
 };
 
@@ -121,7 +123,7 @@ export class TimeMean {
     const isNew = columns !== this.columns || rows !== this.rows, memory = isNew ? 0 : kept, weight = 1 - memory;
     Object.assign(this, { columns, rows, width, height });
     if (isNew) {
-      [this.u, this.v, this.values, this.across, ...this.parts] = Array.from({ length: 8 }, () => new Float64Array(columns * rows));
+      [this.u, this.v, this.values, this.across, ...this.parts] = Array(8).fill(0).map(() => new Float64Array(columns * rows));
       this.smooth.clear();
       this.pixels = new Uint8Array(columns * rows);
     }

@@ -22,6 +22,9 @@ const TABLE = {
   hpp: { number: 1, label: "HPP", rule: "four", momenta: [[1, 0], [0, 1], [-1, 0], [0, -1]], units: [1, 1] },
 };
 
+/** How far a row of a gas lies to the east. */
+export const eastOf = ({ apart }, row) => (apart < 1 ? (row & 1) / 2 : 0);
+
 /** What follows: among others the distance of rows, the speed of sound, and the directions turned back. */
 function gasOf(name, row = TABLE[name]) {
   const { momenta, units: [east, apart] } = row, isHexagonal = apart < 1, directions = momenta.length;
@@ -39,11 +42,6 @@ export const GASES = Object.fromEntries(Object.keys(TABLE).map((name) => [name, 
 
 /** @type {Record<Chirality, Chirality>} the chirality that undoes a collision. */
 export const OTHER = { left: "right", right: "left", seeded: "seeded" };
-
-/** How far a row of a gas lies to the east. */
-export function eastOf({ apart }, row) {
-  return apart < 1 ? (row & 1) / 2 : 0;
-}
 
 /** The particles' velocities by direction, eastwards and northwards. */
 export const velocities = ({ momenta, units }) => momenta.map(([x, y]) => [x * units[0], y * units[1]]);

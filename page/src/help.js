@@ -8,7 +8,8 @@ export const KEY_NAMES = { " ": "space", ArrowLeft: "←", ArrowRight: "→", En
 export const HELP = {
   scene: "What the lattice begins with.",
   send: "Copies a link with the message, which nobody can read in it, and shares it if the browser can.",
-  text: "What is written into the gas before it runs for 3,000 generations.", size: "How many cells the lattice has across and down.",
+  text: "What is written into the gas before it runs for 3,000 generations.",
+  size: "How many cells the lattice has across and down.",
   fill: "The filling d: the chance that a cell has a particle in a direction.",
   radius: "The radius of the obstacles in cells.",
   developed: "Begins with a flow that has had its time to form, if one of this size, wind and obstacle is kept.",
