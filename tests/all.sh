@@ -12,13 +12,8 @@ parts() { local name; for name; do part "tests/$name"; done; }
 
 # examples NAME..: whether the sources print what these worked examples want, compiled once and without a proof
 examples() {
-    local name
     mkdir "$room/cases"
-    for name; do
-        cp "tests/program/examples/$name.toml" "$room/cases/$name"
-        tr ' ' '\n' < "tests/program/examples/$name.words" > "$room/cases/$name.args"
-        cp "tests/program/examples/$name.wanted" "$room/cases/$name.stdout"
-    done
+    tests/lib/examples.py "$room/cases" "$@"
     (cd crates/fhpgas && rt try --cases "$room/cases")
 }
 

@@ -14,6 +14,7 @@ import sys
 import tempfile
 
 sys.path.append(f"{sys.path[0]}/../lib")
+import examples as worked
 import needs
 import second_reader
 
@@ -356,12 +357,10 @@ def lone_particles():
 
 
 def examples():
-    """The worked examples: NAME.toml, or else the scene of that name, with the words NAME.words prints NAME.wanted."""
-    for wanted in sorted((needs.ROOT / "tests/program/examples").glob("*.wanted")):
-        own = wanted.with_suffix(".toml")
-        scene = own if own.exists() else needs.ROOT / "scenes" / own.name
-        for words in on_threads(wanted.with_suffix(".words").read_text().split()):
-            yield words, scene.read_text(), 0, wanted.read_text(), ""
+    """The worked examples."""
+    for given, scene, wanted in worked.cases().values():
+        for words in on_threads(given):
+            yield words, scene, 0, wanted, ""
 
 
 def stored():
