@@ -4,11 +4,15 @@
 set -o pipefail
 program=crates/fhpgas/out/fhpgas
 checked=$PWD/out/checked/fhpgas
-sources=(set_up/lint.sh documents/{links,sentences_and_words,definitions}.py package/{imports,derivation,tested_functions}.py
-    program/code_without_contract.py) # what needs no program
 package=(package/{lattices,blocks,drawing,flows,processes}.py) # the tests of the package that runs lattices
 
 parts() { local name; for name; do part "tests/$name"; done; }
+
+# sources: what needs no program
+sources() {
+    parts set_up/lint.sh documents/{links,sentences_and_words,definitions}.py package/{imports,derivation,tested_functions}.py
+    part pytests tests/program/code_without_contract.py
+}
 
 # examples NAME..: whether the sources print what these worked examples want, compiled once and without a proof
 examples() {
@@ -20,11 +24,11 @@ examples() {
 # quick: for the time between edits. A program that FHPGAS names, or that is built and newer than the sources, is tried from outside, else a
 # few worked examples by `rt try`, in some minutes. Nothing is proved.
 quick() {
-    parts "${sources[@]}" documents/proved.py
+    sources
+    parts documents/proved.py
     if [ -n "${FHPGAS-}" ] || make -sq "$program"; then
-        parts program/command_line.py program/help.py documents/printed_commands.py package/explanations.py "${package[@]}" \
-            package/commands.py
-        part tests/program/mutated_scenes.py 300
+        part pytests tests/program/{command_line,help,mutated_scenes}.py --scenes 300
+        parts documents/printed_commands.py package/explanations.py "${package[@]}" package/commands.py
     elif has rt 'the program'; then
         part examples check_rectangles head_on_left obstacle_1 seeded_pairs filling coarse_uneven replay_done
     fi
@@ -45,8 +49,8 @@ plain() {
     has cargo 'plain Rust' || return 0
     parts plain/stripping.py plain/crates.sh
     part plain/build.sh out/checked checked
-    FHPGAS=$checked parts plain/calls.py plain/differences.py program/command_line.py plain/front.sh
-    FHPGAS=$checked part tests/program/mutated_scenes.py 300
+    FHPGAS=$checked parts plain/calls.py plain/differences.py plain/front.sh
+    FHPGAS=$checked part pytests tests/program/{command_line,mutated_scenes}.py --scenes 300
     part tests/plain/sanitizers.py Sanitized.test_threads # the other sanitizer is for a release
 }
 
@@ -75,24 +79,27 @@ case $1 in
     test)
         unset FHPGAS # what is built here is tried
         tests/set_up/install.sh || exit 1
-        parts "${sources[@]}" set_up/missing_libraries.sh set_up/makefile.sh program/lost_wake_ups.sh
+        sources
+        parts set_up/missing_libraries.sh set_up/makefile.sh
+        part pytests tests/program/lost_wake_ups.py
         CI='' part tests/documents/proved.py # the gate leaves no log of the C functions, `make` does
         [ ${#failed[@]} = 0 ] || exit 1
-        others=(program/{help,terminal,refused_memory}.py documents/library.py set_up/release.sh documents/first_change.sh)
-        if has rt "the proofs, and ${others[*]}"; then
+        if has rt 'the proofs, and the tests of help, terminal, refused memory, library, release and first change'; then
             gate
-            part tests/program/wrong_bodies.py "$room/gate"
+            part pytests tests/program/wrong_bodies.py --gate "$room/gate"
             part make -s engine
             plain
-            parts "${others[@]}"
+            part pytests tests/program/{help,refused_memory}.py
+            part alone tests/program/terminal.py
+            parts documents/library.py set_up/release.sh documents/first_change.sh
         else
             plain
             export FHPGAS=$checked
         fi
-        parts program/command_line.py documents/version.py program/cells_beside_c.py program/cells_beside_golly.py \
-            program/reference_scenes.py program/large_scenes.py program/largest_sizes.py
+        part pytests tests/program/{command_line,cells_beside_{c,golly},reference_scenes,mutated_scenes}.py --scenes 5000
+        parts documents/version.py
+        part alone tests/program/{large_scenes,largest_sizes}.py
         package
-        part tests/program/mutated_scenes.py 5000
         mkdir -p out
         [ -n "${FHPGAS-}" ] || tests/set_up/record.py "$room/gate" "$room/parts" "$SECONDS" > out/record
         ;;

@@ -1,9 +1,9 @@
 #!/usr/bin/env python3
-"""What the scripts of the tests share. They may import the package in python/. A script that lacks a tool or a library says so in its last
-line and ends with LEFT_OUT. One that imports this module continues in the tests' Python: of the Python that tests/set_up/install.sh makes,
-the caller's and the system's, the one that lacks the fewest libraries of tests/lib/requirements.txt. As a script it prints this Python, the
-versions of the libraries, where install.sh makes its Python, and the lines of what is lacking, or with the word `own` the lines of what the
-Python that runs it lacks."""
+"""What the tests share. They may import the package in python/. A script that lacks a tool or a library says so in its last line and ends
+with LEFT_OUT. One that imports this module continues in the tests' Python: of the Python that tests/set_up/install.sh makes, the caller's
+and the system's, the one that lacks the fewest libraries of tests/lib/requirements.txt. (pytest's tests run in the Python that runs
+pytest.) As a script it prints this Python, the versions of the libraries, where install.sh makes its Python, and the lines of what is
+lacking, or with the word `own` the lines of what the Python that runs it lacks."""
 
 import importlib.metadata
 import os
@@ -35,8 +35,7 @@ if signal.getsignal(signal.SIGINT) is signal.SIG_IGN:  # as in the background of
 
 
 def stop(what):
-    script = pathlib.Path(sys.argv[0]).resolve()
-    print(f"{script.relative_to(ROOT)}: {what}", file=sys.stderr)
+    print(f"{sys.argv[0]}: {what}", file=sys.stderr)
     sys.exit(2)
 
 
@@ -179,7 +178,7 @@ def lines():
 if __name__ == "__main__" and sys.argv[1:] == ["own"]:
     print(lines())
     sys.exit()
-if lacking():
+if lacking() and "pytest" not in sys.modules:
     best = min(filter(os.path.exists, PYTHONS), key=lambda python: len(lacking_there(python)))
     if best != sys.executable:
         os.execv(best, [best, *sys.argv])

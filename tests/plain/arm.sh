@@ -22,8 +22,7 @@ mkdir "$room/plain"
 by_qemu "$room/plain/fhpgas" "$folder/fhpgas-linux-aarch64"
 export FHPGAS=$room/plain/fhpgas
 try 'the program says what it trusts' grep -q '(plain Rust, trusts the proofs of .*, not proved)' <("$FHPGAS" --version)
-part tests/program/command_line.py
-part tests/program/cells_beside_c.py
+part pytests tests/program/{command_line,cells_beside_c}.py
 
 for machine in x86_64 aarch64; do
     try "a wheel is for $machine" python3 -m zipfile -e "$folder"/fhpgas-*-manylinux_*_$machine.whl "$room/$machine"

@@ -1,23 +1,15 @@
-#!/usr/bin/env python3
-"""Compares the built program with C programs that compute the same lattices in other ways, on twenty random maps with obstacles:
-tests/program/oracles/bytes.c, cell by cell from tables, for every gas, and tests/program/oracles/bands.c, on bit planes cut into bands, for
-FHP-I. The gases, chiralities, sizes, first generations and plans take turns, and seeds are fixed. All must print the same bytes. Ends with
-the counts."""
+"""Compares the built program with C programs that compute the same lattices in other ways, on twenty
+random maps with obstacles: oracles/bytes.c, cell by cell from tables, for every gas, and
+oracles/bands.c, on bit planes cut into bands, for FHP-I. The gases, chiralities, sizes, first
+generations and plans take turns, and seeds are fixed. All must print the same bytes."""
 
-import concurrent.futures
 import itertools
-import os
-import pathlib
 import random
-import sys
-import tempfile
 
-sys.path.append(f"{sys.path[0]}/../lib")
 import needs
+import pytest
 from fhpgas import gas_table
 
-PROGRAM = needs.built_program()
-MAPS = 20
 ROWS = sorted(gas_table.GASES.items(), key=lambda row: row[1].units)  # triangular lattices first
 GASES = {name: len(row.momenta) for name, row in ROWS}  # and their directions
 CHIRALITIES = ["left", "right", "seeded"]
@@ -47,8 +39,13 @@ def drawn(rng, width, height, directions):
     return ["".join(row) for row in rows]
 
 
-def fault(number, room):
-    """The map of that number, and the programs that differ on it."""
+@pytest.fixture(scope="session")
+def by_bands(compiled):
+    return compiled("oracles/bands.c", "-O3", "-march=x86-64-v2", "-pthread")
+
+
+@pytest.mark.parametrize("number", range(20))
+def test_map(program, by_bytes, by_bands, number):
     rng = random.Random(number)
     kinds = [*itertools.product(GASES.items(), CHIRALITIES)]
     (gas, directions), chirality = kinds[number % len(kinds)]
@@ -60,26 +57,11 @@ def fault(number, room):
     rows = drawn(rng, width, height, directions)
     keys = f'version = 2\ngas = "{gas}"\nchirality = "{chirality}"\nseed = {seed}\ngeneration = {first}\n'
     scene = f"{keys}cells = {rows}\n".encode()
-    ours = needs.printed([PROGRAM, "run", "--generations", generations, *plan], scene)
+    ours = needs.printed([program, "run", "--generations", generations, *plan], scene)
     word = seed if chirality == "seeded" else chirality
-    programs = [[room / "bytes", generations, word, gas]]
-    programs += [[room / "bands", generations, 3, word]] * (gas == "fhp1")
     start = "\n".join([f"generation {first} particles 0", *rows, ""]).encode()
-    wrong = [it[0].name for it in programs if needs.printed(it, start) != ours]
-    sizes = f"{width} x {height}, {generations} generations, {stages} stages, {threads} threads"
-    return f"map {number}: {gas}, {chirality}, {sizes}", wrong
-
-
-def main():
-    with tempfile.TemporaryDirectory() as folder, concurrent.futures.ThreadPoolExecutor(
-        os.cpu_count()
-    ) as pool:
-        room = pathlib.Path(folder)
-        for name in "bytes", "bands":
-            source, flags = f"tests/program/oracles/{name}.c", "-O3 -march=x86-64-v2 -pthread"
-            needs.compiled(source, room / name, *flags.split())
-        return needs.tell_wrong(pool.map(lambda number: fault(number, room), range(MAPS)))
-
-
-if __name__ == "__main__":
-    sys.exit(main())
+    is_alike = needs.printed([by_bytes, generations, word, gas], start) == ours
+    assert is_alike, f"{gas}, {chirality}, {width} x {height}, {generations} generations, {plan}"
+    if gas == "fhp1":
+        is_alike = needs.printed([by_bands, generations, 3, word], start) == ours
+        assert is_alike, f"by bands: {width} x {height}, {generations} generations, {plan}"

@@ -1,20 +1,14 @@
-#!/usr/bin/env python3
-"""Compares the built program with Golly's rule HPP, which other people wrote, on random lattices of HPP. Golly keeps a cell's particles as
-they leave the cell, so its state is ours after the collision. Its torus has no walls, so only rows are compared that no wall can have
-reached. Ends with the counts."""
+"""Compares the built program with Golly's rule HPP, which other people wrote, on random lattices of
+HPP. Golly keeps a cell's particles as they leave the cell, so its state is ours after the collision.
+Its torus has no walls, so only rows are compared that no wall can have reached."""
 
-import pathlib
 import random
 import re
-import sys
-import tempfile
 
-sys.path.append(f"{sys.path[0]}/../lib")
 import needs
+import pytest
 
-PROGRAM = needs.built_program()
 RULES = "/usr/share/golly/Rules/"
-LATTICES = 60
 BITS = {1: 4, 2: 2, 4: 1, 8: 8}  # our east, north, west and south in Golly's state
 HEAD_ON = {5: 10, 10: 5}
 LETTERS = ".ABCDEFGHIJKLMNO"  # Golly's states 0 to 15 in a pattern
@@ -48,10 +42,10 @@ def after_golly(rows, generations, room):
     return found
 
 
-def after_ours(rows, generations):
+def after_ours(program, rows, generations):
     """The same rows after our generations, as Golly's states."""
     cells = ["".join(f"{state:02x}" for state in row) for row in rows]
-    words = [PROGRAM, "run", "--generations", generations]
+    words = [program, "run", "--generations", generations]
     printed = needs.printed(words, f'gas = "hpp"\ncells = {cells}\n'.encode()).decode()
     pairs = (
         [row[at : at + 2] for at in range(0, len(row), 2)] for row in printed.split("\n")[1:-1]
@@ -59,7 +53,9 @@ def after_ours(rows, generations):
     return [[leaving(0 if pair == ".." else int(pair, 16)) for pair in row] for row in pairs]
 
 
-def is_alike(number, room):
+@pytest.mark.parametrize("number", range(60))
+def test_lattice(program, tool, tmp_path, number):
+    tool("bgolly")
     rng = random.Random(number)
     generations, width, rate = rng.randint(1, 40), rng.randint(4, 130), rng.choice([0.05, 0.2, 0.5])
     height = 2 * generations + rng.randint(2, 40)
@@ -68,16 +64,5 @@ def is_alike(number, room):
         for _ in range(height)
     ]
     kept = slice(generations, height - generations)
-    return after_ours(rows, generations)[kept] == after_golly(rows, generations, room)[kept]
-
-
-def main():
-    needs.command("bgolly")
-    with tempfile.TemporaryDirectory() as folder:
-        for number in range(LATTICES):
-            is_so = is_alike(number, pathlib.Path(folder))
-            needs.check(f"lattice {number} is Golly's", is_so)
-    return needs.tell_checks()
-
-
-sys.exit(main())
+    ours, golly = after_ours(program, rows, generations), after_golly(rows, generations, tmp_path)
+    assert ours[kept] == golly[kept]

@@ -1,14 +1,12 @@
-#!/usr/bin/env python3
-"""Compares the code outside `answer`, which no contract speaks of, with what it may be. main passes arguments, input and output of the
-runtime on to `answer` unchanged and ends with the fault's status: its names are compared by what they mean, imports included. What watches
-a run has a clock and standard error, and the crates below have threads and waiting, and no other power of the runtime. Ends with the
-counts."""
+"""Compares the code outside `answer`, which no contract speaks of, with what it may be. main passes
+arguments, input and output of the runtime on to `answer` unchanged and ends with the fault's status:
+its names are compared by what they mean, imports included. What watches a run has a clock and
+standard error, and the crates below have threads and waiting, and no other power of the runtime."""
 
 import re
-import sys
 
-sys.path.append(f"{sys.path[0]}/../lib")
 import needs
+import pytest
 
 CRATES = needs.ROOT / "crates"
 MAIN = """\
@@ -104,24 +102,27 @@ def powers(path):
     return parts & BROUGHT | set(re.findall(r"\w+", code)) & SEEN
 
 
-def complaints():
+def below():
+    """The program's crate and all that it uses."""
     lines = dict(re.findall(r"^(\w+):(.*)", (needs.ROOT / "crates.txt").read_text(), re.M))
-    below, waiting = set(), ["fhpgas"]
+    found, waiting = set(), ["fhpgas"]
     while waiting:
         crate = waiting.pop()
-        below.add(crate)
-        waiting += [name for name in lines[crate].split() if name in lines and name not in below]
-    if spelled_out((CRATES / "fhpgas/src/main.rt").read_text())[0].split() != MAIN.split():
-        yield "main is not what passes all on to gas_tool::answer"
-    for crate in sorted(below):
-        for path in sorted((CRATES / crate / "src").rglob("*.rt")):
-            name = str(path.relative_to(CRATES))
-            held = powers(path)
-            may = HELD.get(name, set() if crate == "fhpgas" else HELD.get(crate, set()))
-            if more := held - may:
-                yield f"{name} has more of the runtime than it may: {', '.join(sorted(more))}"
-            elif name in HELD and held != may:
-                yield f"{name} has less of the runtime than this test says"
+        found.add(crate)
+        waiting += [name for name in lines[crate].split() if name in lines and name not in found]
+    return sorted(found)
 
 
-sys.exit(needs.tell_faults(len(HELD) + 1, [*complaints()]))
+def test_main():
+    """main is what passes all on to gas_tool::answer."""
+    assert spelled_out((CRATES / "fhpgas/src/main.rt").read_text())[0].split() == MAIN.split()
+
+
+@pytest.mark.parametrize("crate", below())
+def test_powers(crate):
+    """A file has no more of the runtime than it may, and one that is named here no less."""
+    for path in sorted((CRATES / crate / "src").rglob("*.rt")):
+        name = str(path.relative_to(CRATES))
+        may = HELD.get(name, set() if crate == "fhpgas" else HELD.get(crate, set()))
+        assert powers(path) <= may, name
+        assert powers(path) == may or name not in HELD, name

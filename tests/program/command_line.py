@@ -1,27 +1,20 @@
-#!/usr/bin/env python3
-"""Runs the built program on the cases of tables: words, scenes and streams of every kind, with what it must print, on standard output and
-on standard error, and the status that it must end with. The cells of scenes with many rectangles come from a second reading of the text.
-Ends with the counts."""
+"""Runs the built program on the cases of tables: words, scenes and streams of every kind, with what
+it must print, on standard output and on standard error, and the status that it must end with. The
+cells of scenes with many rectangles come from a second reading of the text."""
 
-import concurrent.futures
 import itertools
-import os
-import pathlib
 import re
 import shutil
 import subprocess
-import sys
-import tempfile
 
-sys.path.append(f"{sys.path[0]}/../lib")
-import examples as worked
+import examples
 import needs
+import pytest
 import second_reader
 
-PROGRAM = needs.built_program()
-IS_PLAIN = PROGRAM.parent.name in ("plain", "checked")
 SOMETHING = re.compile(r"(?s).+")
 MOST_CELLS = 400_000  # that the second reader takes
+EXAMPLES = examples.cases()
 
 # What `check` reads next to a scene that is refused, and the lines that refuse it.
 SYNTAX, UNKNOWN_KEY, BOTH_FORMS, MISSING, WRONG_TYPE, RANGE = (
@@ -186,21 +179,6 @@ AREAS = {
     ).split(" | "),
     UNKNOWN_KEY: ["[x]"],
 }
-# what is next to a map or an area: the version decides whether there may be a generation, and an unknown version counts as 1;
-VERSIONS = {
-    None: "version = 1|version = 2|generation = 3\nversion = 2|generation = 1000000000000\nversion = 2",
-    RANGE: "version = 0|version = 3|version = -2|generation = -1\nversion = 2|"
-    "generation = 1000000000001\nversion = 2",
-    WRONG_TYPE: 'version = "1"|version = "2"|version = 2.0|generation = "1"\nversion = 2',
-    UNKNOWN_KEY: "generation = 3|generation = 3\nversion = 1|generation = 3\nversion = 3|"
-    'generation = 3\nversion = "2"',
-}
-# the width and the height of an area, by the most that a version allows (mutated_scenes.py has the sides of maps);
-SIDES = {
-    None: lambda most: [(most, 1), (1, most)],
-    RANGE: lambda most: [(most + 1, 1), (1, most + 1), (0, 1), (1, 0), (1, -1)],
-}
-MOST_SIDE = {"": 4096, "version = 1\n": 4096, "version = 2\n": 65536}
 # and the cells of a row: two characters are a cell only if both are marks of one kind, or digits of a state that the gas has.
 CELLS = {
     None: "hpp ##|hpp ..|hpp 0f|fhp1 3f|fhp-rest 7f",
@@ -226,36 +204,9 @@ def scenes():
         yield from ((text, wanted) for text in texts)
     for wanted, texts in AREAS.items():
         yield from ((text if text.startswith("gas") else AREA + text, wanted) for text in texts)
-    for wanted, keys in VERSIONS.items():
-        yield from ((form + key, wanted) for form in (MAP, AREA) for key in keys.split("|"))
     for wanted, rows in CELLS.items():
         for row in rows.split("|"):
             yield 'gas = "{}"\ncells = ["{}"]'.format(*row.split(" ")), wanted
-    for version, most in MOST_SIDE.items():
-        for wanted, sides in SIDES.items():
-            for width, height in sides(most):
-                yield f'{version}gas = "fhp1"\nwidth = {width}\nheight = {height}', wanted
-
-
-def cut_short():
-    """The first bytes of DRIFT, for each number of bytes: only whole lines are TOML, and only the whole map is a scene."""
-    ends = [at for at, mark in enumerate(DRIFT) if mark == "\n"]
-    whole = {0, *ends, *(end + 1 for end in ends)}
-    for length in range(len(DRIFT) + 1):
-        refusal = MISSING if length in whole else SYNTAX
-        yield DRIFT[:length], None if length >= ends[-1] else refusal
-
-
-def rectangles():
-    """The texts with rectangles, the lines of `check` and the printed cells."""
-    for keys in RECTANGLES:
-        text = f'version = 2\ngas = "hpp"\n{keys}'
-        lattice = second_reader.read(text.encode(), MOST_CELLS)
-        yield text, lattice.check_line(), lattice.printed()
-    for width in WIDTHS:
-        text = f'version = 2\ngas = "fhp1"\nrate = 1000\nwidth = {width}\nheight = 2\nsolid = [[0, 0, {width}, 2]]'
-        line = f"gas fhp1 width {width} height 2 solid {2 * width} particles 0\n"
-        yield text, line, "generation 0 particles 0\n" + ("##" * width + "\n") * 2
 
 
 def usage():
@@ -296,26 +247,26 @@ def of_limits():
             words = [f"--{name}={value}" for name, value in values.items()]
             words = ["coarse" if of_blocks else "run", *words]
             if refusal is USAGE:
-                yield words, DRIFT, 2, "", SOMETHING
+                yield words, 2, "", SOMETHING
             elif refusal:
-                yield words, DRIFT, 1, "", refusal + "\n"
+                yield words, 1, "", refusal + "\n"
             elif of_blocks:
                 table = blocks(values["block-width"], values["block-height"])
-                yield words, DRIFT, 0, "".join(table), ""
+                yield words, 0, "".join(table), ""
             else:
-                yield words, DRIFT, 0, drifted(values["generations"]), ""
+                yield words, 0, drifted(values["generations"]), ""
 
 
 def many_turns():
-    """Twelve thousand turns and a hundred thousand on a column of cells. All of them count: without the last one a row is missing."""
-    for rows in 3_000, 25_050:
-        scene = f'version = 2\ngas = "fhp1"\nchirality = "left"\nwidth = 1\nheight = {rows}\nparticles = [[0, {rows - 1}, 1]]\n'
-        turns = "0 1 0 1 1 0 1 " + "0 0 1 1 " * (rows - 3) + "0 1 0 1 0"
-        words = ["replay", "--generations", "1", "--stages", "1", "--capacity", "1", *turns.split()]
-        belts = f"belt 0 put {rows} taken {rows}\nbelt 1 put {rows} taken "
-        cells = "generation 1 particles 1\n" + "..\n" * (rows - 1) + "01\n"
-        yield words, scene, 0, f"done\n{belts}{rows}\n{cells}", ""
-        yield words[:-1], scene, 0, f"not done\n{belts}{rows - 1}\n", ""
+    """A hundred thousand turns on a column of cells. All of them count: without the last one a row is missing."""
+    rows = 25_050
+    scene = f'version = 2\ngas = "fhp1"\nchirality = "left"\nwidth = 1\nheight = {rows}\nparticles = [[0, {rows - 1}, 1]]\n'
+    turns = "0 1 0 1 1 0 1 " + "0 0 1 1 " * (rows - 3) + "0 1 0 1 0"
+    words = ["replay", "--generations", "1", "--stages", "1", "--capacity", "1", *turns.split()]
+    belts = f"belt 0 put {rows} taken {rows}\nbelt 1 put {rows} taken "
+    cells = "generation 1 particles 1\n" + "..\n" * (rows - 1) + "01\n"
+    yield words, scene, f"done\n{belts}{rows}\n{cells}"
+    yield words[:-1], scene, f"not done\n{belts}{rows - 1}\n"
 
 
 def on_threads(words):
@@ -341,7 +292,7 @@ def lone_particle(size, place, words):
     rows, x_then = [".." * width] * height, (x + generations) % width
     rows[y] = ".." * x_then + "01" + ".." * (width - 1 - x_then)
     told = f"generation {generations} particles 1\n" + "\n".join([*rows, ""])
-    return words, f"{scene}particles = [[{x}, {y}, 1]]\n", 0, told, ""
+    return words, f"{scene}particles = [[{x}, {y}, 1]]\n", told
 
 
 def lone_particles():
@@ -356,89 +307,120 @@ def lone_particles():
         yield lone_particle((7, 64), (0, 31), f"run --generations {plan}".split())
 
 
-def examples():
-    """The worked examples."""
-    for given, scene, wanted in worked.cases().values():
-        for words in on_threads(given):
-            yield words, scene, 0, wanted, ""
+def is_like(came, wanted):
+    return bool(wanted.fullmatch(came)) if isinstance(wanted, re.Pattern) else came == wanted
 
 
-def stored():
-    """Every scene of scenes/ runs, from its generation."""
-    for path in sorted((needs.ROOT / "scenes").glob("*.toml")):
-        scene = path.read_text()
-        first = int((re.findall(r"^generation = (\d+)$", scene, re.M) or ["0"])[0])
-        wanted = re.compile(rf"(?s)generation {first + 3} particles .+")
-        yield ["run", "--generations", "3"], scene, 0, wanted, ""
-
-
-def version():
-    """The version is cited and has the newest entry of the changes, and the kit is what README names and what proves it, if it is here. What
-    plain Rust builds says so instead of the kit."""
-    texts = [
-        (needs.ROOT / name).read_text() for name in ("CITATION.cff", "README.md", "CHANGELOG.md")
-    ]
-    cited = re.search(r"^version: (.*)$", texts[0], re.M)[1]
-    kit = re.search(r"`(rattle-kit-[^`]*)`", texts[1])[1]
-    here = needs.printed(["rt", "version"]).decode().strip() if shutil.which("rt") else kit
-    is_kit = re.sub(r"^(rattle-kit-\d+)[a-z]* ", r"\1 ", here) == kit
-    told = is_kit and re.search(rf"^## {re.escape(cited)}\b", texts[2], re.M)
-    build = r"plain Rust, .+, not proved" if IS_PLAIN else re.escape(kit)
-    wanted = re.compile(rf"fhpgas {re.escape(cited)} \({build}\)\n")
-    yield ["--version"], "", 0, wanted if told else "what CHANGELOG and README tell", ""
-
-
-def programs():
-    """The cases of the program: words, standard input, status and what it prints."""
-    yield from ((words, DRIFT, 2, "", SOMETHING) for words in usage())
-    yield from ((words.split(), DRIFT, *wanted) for words, *wanted in WORDS)
-    for refusal, lines in REFUSED.items():
-        yield from ((words.split(), DRIFT, 1, "", refusal + "\n") for words in lines.split("|"))
-    for text, wanted in ("", MISSING), ("gas = ", SYNTAX):
-        yield "run --generations 1 --stages 0".split(), text, 1, "", wanted + "\n"
-    for text, wanted in itertools.chain(scenes(), cut_short()):
-        told = (1, "", wanted + "\n") if wanted else (0, re.compile("gas .*\n"), "")
-        yield ["check"], text, *told
-    for text, line, cells in rectangles():
-        yield ["check"], text, 0, line, ""
-        yield ["run", "--generations", "0"], text, 0, cells, ""
-    for cases in of_limits, many_turns, lone_particles, examples, stored, version:
-        yield from cases()
-
-
-def answer(words, text, room):
+def said(words, text="", room=None):
+    """The status, and what was printed on standard output and on standard error."""
     given = text if isinstance(text, bytes) else text.encode()
     ran = subprocess.run(words, input=given, capture_output=True, timeout=needs.PATIENCE, cwd=room)
     return ran.returncode, ran.stdout.decode(errors="replace"), ran.stderr.decode(errors="replace")
 
 
-def is_like(came, wanted):
-    return bool(wanted.fullmatch(came)) if isinstance(wanted, re.Pattern) else came == wanted
+def compare(came, wanted):
+    assert all(map(is_like, came, wanted)), f"{wanted!r:.300} was expected, and came {came!r:.300}"
 
 
-def tried(case, room):
-    """A case, and what is wrong with its output, or None."""
-    words, text, *wanted = case
-    name = f"{words[:12]} on {text[:200]!r}"
-    try:
-        came = answer(words, text, room)
-    except subprocess.TimeoutExpired as late:
-        return name, late
-    is_so = all(map(is_like, came, wanted))
-    return name, None if is_so else f"{wanted!r:.300} was expected, and came {came!r:.300}"
+@pytest.fixture
+def check(program):
+    """Compares the program's answer with a status and what it prints on both streams."""
+    return lambda words, text, *wanted: compare(said([program, *words], text), wanted)
 
 
-def main():
-    with tempfile.TemporaryDirectory() as folder, concurrent.futures.ThreadPoolExecutor(
-        os.cpu_count()
-    ) as pool:
-        room = pathlib.Path(folder)
-        (room / "fhpgas").symlink_to(PROGRAM)
-        (room / "drift").write_text(DRIFT)
-        (room / "wide").write_text(WIDE)
-        cases = [([PROGRAM, *words], *case) for words, *case in programs()]
-        cases += [(["bash", "-c", line], "", *wanted) for line, *wanted in STREAMS]
-        return needs.tell_wrong(pool.map(lambda case: tried(case, room), cases))
+def each(names, cases):
+    """Has a test run for each of the cases, which its first value names."""
+    cases = [*cases]
+    firsts = [case[0] if "," in names else case for case in cases]
+    told = (" ".join(it) if isinstance(it, list) else str(it) for it in firsts)
+    return pytest.mark.parametrize(names, cases, ids=[name[:70] for name in told])
 
 
-sys.exit(main())
+@each("words", usage())
+def test_usage(check, words):
+    check(words, DRIFT, 2, "", SOMETHING)
+
+
+@each("words, status, out, err", WORDS)
+def test_words(check, words, status, out, err):
+    check(words.split(), DRIFT, status, out, err)
+
+
+@each("words, line", ((words, line) for line, all in REFUSED.items() for words in all.split("|")))
+def test_refused_plan(check, words, line):
+    check(words.split(), DRIFT, 1, "", f"{line}\n")
+
+
+@each("text, line", [("", MISSING), ("gas = ", SYNTAX)])
+def test_scene_is_refused_before_plan(check, text, line):
+    check("run --generations 1 --stages 0".split(), text, 1, "", f"{line}\n")
+
+
+@each("words, status, out, err", of_limits())
+def test_limits(check, words, status, out, err):
+    check(words, DRIFT, status, out, err)
+
+
+@each("text, line", scenes())
+def test_check(check, text, line):
+    check(["check"], text, *((1, "", f"{line}\n") if line else (0, re.compile("gas .*\n"), "")))
+
+
+@pytest.mark.parametrize("keys", RECTANGLES, ids=["200 columns", "65536 columns"])
+def test_rectangles(check, keys):
+    text = f'version = 2\ngas = "hpp"\n{keys}'
+    lattice = second_reader.read(text.encode(), MOST_CELLS)
+    check(["check"], text, 0, lattice.check_line(), "")
+    check(["run", "--generations", "0"], text, 0, lattice.printed(), "")
+
+
+@pytest.mark.parametrize("width", WIDTHS)
+def test_rectangle_over_all(check, width):
+    text = f'version = 2\ngas = "fhp1"\nrate = 1000\nwidth = {width}\nheight = 2\nsolid = [[0, 0, {width}, 2]]'
+    line = f"gas fhp1 width {width} height 2 solid {2 * width} particles 0\n"
+    check(["check"], text, 0, line, "")
+    cells = "generation 0 particles 0\n" + ("##" * width + "\n") * 2
+    check(["run", "--generations", "0"], text, 0, cells, "")
+
+
+@each("words, scene, out", itertools.chain(many_turns(), lone_particles()))
+def test_lone_particle(check, words, scene, out):
+    check(words, scene, 0, out, "")
+
+
+@pytest.mark.parametrize(
+    "name, words",
+    [(name, words) for name, case in EXAMPLES.items() for words in on_threads(case[0])],
+    ids=lambda value: value if isinstance(value, str) else " ".join(value)[:70],
+)
+def test_example(check, name, words):
+    _, scene, wanted = EXAMPLES[name]
+    check(words, scene, 0, wanted, "")
+
+
+@pytest.mark.parametrize("path", (needs.ROOT / "scenes").glob("*.toml"), ids=lambda path: path.stem)
+def test_stored_scene(check, path):
+    """Every scene of scenes/ runs, from its generation."""
+    scene = path.read_text()
+    first = int((re.findall(r"^generation = (\d+)$", scene, re.M) or ["0"])[0])
+    wanted = re.compile(rf"(?s)generation {first + 3} particles .+")
+    check(["run", "--generations", "3"], scene, 0, wanted, "")
+
+
+def test_version(check, program):
+    """The kit is what README names and what proves the program, if it is here. What plain Rust builds says so instead of the kit."""
+    cited = re.search("^version: (.*)$", (needs.ROOT / "CITATION.cff").read_text(), re.M)[1]
+    kit = re.search(r"`(rattle-kit-[^`]*)`", (needs.ROOT / "README.md").read_text())[1]
+    here = needs.printed(["rt", "version"]).decode().strip() if shutil.which("rt") else kit
+    assert re.sub(r"^(rattle-kit-\d+)[a-z]* ", r"\1 ", here) == kit
+    is_plain = program.parent.name in ("plain", "checked")
+    build = r"plain Rust, .+, not proved" if is_plain else re.escape(kit)
+    check(["--version"], "", 0, re.compile(rf"fhpgas {re.escape(cited)} \({build}\)\n"), "")
+
+
+@each("line, status, out, err", STREAMS)
+def test_streams(program, tmp_path, line, status, out, err):
+    for name, text in ("drift", DRIFT), ("wide", WIDE):
+        (tmp_path / name).write_text(text)
+    command = line.replace("./fhpgas", str(program))
+    compare(said(["bash", "-c", command], room=tmp_path), (status, out, err))

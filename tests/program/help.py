@@ -1,16 +1,13 @@
-#!/usr/bin/env python3
-"""Compares what the program's help states of units and limits with docs/FORMATS.md: the ranges and defaults of the options with its table,
-and other lines with the words and numbers that a pair below has for both. A line of help that has a number, a unit or a limit and is
-compared with nothing fails. Ends with the counts."""
+"""Compares what the program's help states of units and limits with docs/FORMATS.md: the ranges and
+defaults of the options with its table, and other lines with the words and numbers that a pair below
+has for both. A line of help that has a number, a unit or a limit and is compared with nothing fails."""
 
 import re
-import subprocess
-import sys
 
-sys.path.append(f"{sys.path[0]}/../lib")
 import needs
+import pytest
 
-PROGRAM = needs.built_program()
+FORMATS = (needs.ROOT / "docs/FORMATS.md").read_text()
 COMMANDS = ("", "check", "run", "coarse", "replay")
 STATES = re.compile(r"\d|\bunits?\b|\bhalf\b|\bper\b|\bat (?:least|most)\b|\bmaximum\b")
 USAGE = re.compile(r"^Example: |^Usage: |^ +-\w, ")
@@ -39,9 +36,9 @@ def lines_of(text, found):
     return set(range(text.count("\n", 0, found.start()), text.count("\n", 0, found.end()) + 1))
 
 
-def rows(formats):
+def rows():
     """The range and the default of each option, by the table of FORMATS."""
-    for row in re.findall(r"^\| `--.*$", formats, re.M):
+    for row in re.findall(r"^\| `--.*$", FORMATS, re.M):
         names, _, _, limits, default = row.strip("| ").split(" | ")
         for name in re.findall(r"--([\w-]+)", names):
             yield name, (RANGE.findall(limits.replace(",", "")), re.findall(r"^\d+", default))
@@ -51,29 +48,30 @@ def numbers(found):
     return [group.replace(",", "") for group in found.groups()]
 
 
-def complaints(told, formats):
-    stated, compared = dict(rows(formats)), set()
-    for option in OPTION.finditer(told):
+@pytest.fixture(scope="module")
+def told(program):
+    words = ([program, *command.split(), "--help"] for command in COMMANDS)
+    return "\n\n".join(needs.printed(it).decode() for it in words)
+
+
+def test_options(told):
+    stated, options = dict(rows()), [*OPTION.finditer(told)]
+    assert options
+    for option in options:
         said = RANGE.findall(option[0]), DEFAULT.findall(option[0])
-        compared |= lines_of(told, option)
-        if stated.get(option[1]) != said:
-            yield f"--{option[1]}: the help says {said}, FORMATS {stated.get(option[1])}"
-    for ours, theirs in PAIRS:
-        here, there = list(re.finditer(ours, told)), re.search(theirs, formats)
-        for found in here:
-            compared |= lines_of(told, found)
-        if not here or not there:
-            yield f"not said: {ours if not here else theirs}"
-        elif any(numbers(found) != numbers(there) for found in here):
-            yield f"the help says {here[0][0]!r}, FORMATS {there[0]!r}"
-    for at, line in enumerate(told.split("\n")):
-        if STATES.search(line) and not USAGE.search(line) and at not in compared:
-            yield f"compared with nothing: {line}"
+        assert said == stated.get(option[1]), option[1]
 
 
-told = "\n\n".join(
-    subprocess.run([PROGRAM, *command.split(), "--help"], capture_output=True, text=True).stdout
-    for command in COMMANDS
-)
-wrong = [*complaints(told, (needs.ROOT / "docs/FORMATS.md").read_text())]
-sys.exit(needs.tell_faults(len(PAIRS) + len(OPTION.findall(told)), wrong))
+@pytest.mark.parametrize("ours, theirs", PAIRS)
+def test_pair(told, ours, theirs):
+    here, there = list(re.finditer(ours, told)), re.search(theirs, FORMATS)
+    assert here and there
+    assert {tuple(numbers(found)) for found in here} == {tuple(numbers(there))}
+
+
+def test_nothing_is_compared_with_nothing(told):
+    found = [*OPTION.finditer(told), *(it for ours, _ in PAIRS for it in re.finditer(ours, told))]
+    compared = {number for it in found for number in lines_of(told, it)}
+    lines = enumerate(told.split("\n"))
+    stating = ((at, it) for at, it in lines if STATES.search(it) and not USAGE.search(it))
+    assert not [line for at, line in stating if at not in compared]

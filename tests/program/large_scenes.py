@@ -1,26 +1,24 @@
-#!/usr/bin/env python3
-"""Runs the built program on large texts of many kinds, under a small stack, and prints its answer, seconds and peak memory. Then the
-largest area, and the widest rows through the longest line, if memory allows.
+"""Runs the built program on large texts of many kinds, under a small stack, and prints its answer,
+seconds and peak memory. Then the largest area, and the widest rows through the longest line, if memory allows.
 
-Fails if an answer is not as docs/FORMATS.md says. The times and sizes are only shown.
-Usage: tests/program/large_scenes.py [MEBIBYTES], by default 1. The program reads at most 64.
-"""
+Fails if an answer is not as docs/FORMATS.md says. The times and sizes are only shown, with -s.
+--mebibytes M makes larger texts. The program reads at most 64."""
+
 import itertools
 import os
 import random
 import subprocess
-import sys
 import tempfile
 import time
 
-sys.path.append(f"{sys.path[0]}/../lib")
 import needs
+import pytest
 
-PROGRAM = needs.built_program()
+pytestmark = pytest.mark.alone
 STACK = 256  # KiB
 BLOCK = 1 << 16
 SIDE, MOST_SIDE = 4096, 65536
-LARGEST_BYTES = 4 << 30  # that the largest area or the longest line may take
+LARGEST = "the largest area"
 AREA = f'gas = "fhp1"\nwidth = {SIDE}\nheight = {SIDE}\n'
 SHOWN = f"gas fhp1 width {SIDE} height {SIDE} solid %d particles %d"
 WRONG_TYPE, UNKNOWN, SYNTAX, RANGE, MISSING = (
@@ -103,11 +101,11 @@ def documents(size):
     yield "nested arrays that never end", repeated("cells = ", "[", "", size), SYNTAX
     yield "one text", repeated('gas = "', "a", '"\ncells = []\n', size), RANGE
     yield "one text that never ends", repeated('gas = "', "a", "", size), SYNTAX
-    yield "keys", list(numbered("k%d = 1\n", size)), UNKNOWN
+    yield "keys", numbered("k%d = 1\n", size), UNKNOWN
     yield "one key", repeated("", "k", " = 1\n", size), UNKNOWN
     yield "one key twice", repeated("", "k", " = 1\n", half) * 2, SYNTAX
     yield "one dotted key", repeated("", "k.", "k = 1\n", size), SYNTAX
-    yield "tables", list(numbered("[t%d]\n", size)), UNKNOWN
+    yield "tables", numbered("[t%d]\n", size), UNKNOWN
     yield "comments", repeated("", "#\n", "", size), MISSING
     yield "one comment", repeated("#", "a", "\n", size), MISSING
     yield "empty lines", repeated("", "\n", "", size), MISSING
@@ -117,30 +115,26 @@ def documents(size):
 def texts(size):
     """The texts as names, their pieces and what `check` must say of them."""
     yield from itertools.chain(areas(size), maps(size), documents(size))
-    if has_memory():
-        side = MOST_SIDE
-        area = f'version = 2\ngas = "hpp"\nwidth = {side}\nheight = {side}\n'
-        yield "the largest area", [area], f"gas hpp width {side} height {side} solid 0 particles 0"
+    side = MOST_SIDE
+    area = f'version = 2\ngas = "hpp"\nwidth = {side}\nheight = {side}\n'
+    yield LARGEST, [area], f"gas hpp width {side} height {side} solid 0 particles 0"
 
 
-def has_memory():
-    return needs.free_memory() >= LARGEST_BYTES
-
-
-def is_alike_through_longest_line():
-    """Whether 64 workers with 1,024 places per belt print what one worker prints pass by pass, on the widest rows."""
+def test_longest_line(program, memory):
+    """64 workers with 1,024 places per belt print what one worker prints pass by pass, on the widest rows."""
+    memory(4)
     scene = f'version = 2\ngas = "fhp1"\nseed = 5\nwidth = {MOST_SIDE}\nheight = 64\nrate = 300\nsolid = [[65000, 10, 536, 9], [0, 12, 9, 30]]\n'
-    words = [PROGRAM, "run", "--generations", "70"]
+    words = [program, "run", "--generations", "70"]
     plans = ["--stages", "64", "--capacity", "1024"], ["--stages", "1", "--capacity", "1"]
     longest, shortest = (needs.printed([*words, *plan], scene.encode()) for plan in plans)
-    return longest == shortest and longest.startswith(b"generation 70 particles ")
+    assert longest == shortest and longest.startswith(b"generation 70 particles ")
 
 
-def answer(path):
+def answer(program, path):
     """What the program prints for the text in the file, the seconds that it takes and its peak memory in KiB."""
     with open(path, "rb") as text, tempfile.TemporaryFile() as said:
         started = time.monotonic()
-        words = ["sh", "-c", f'ulimit -s {STACK}; exec "$0" check', PROGRAM]
+        words = ["sh", "-c", f'ulimit -s {STACK}; exec "$0" check', program]
         child = subprocess.Popen(words, stdin=text, stdout=said, stderr=said)
         _, status, used = os.wait4(child.pid, 0)
         seconds = time.monotonic() - started
@@ -151,24 +145,16 @@ def answer(path):
     return told, seconds, used.ru_maxrss
 
 
-def main():
-    size = int(float(sys.argv[1] if len(sys.argv) > 1 else 1) * (1 << 20))
-    print(f"{'text':40} {'bytes':>9} {'seconds':>8} {'peak MB':>8}  answer")
-    with tempfile.NamedTemporaryFile() as file:
-        for name, pieces, expected in texts(size):
-            file.seek(0)
-            file.truncate()
-            for piece in pieces:
-                file.write(piece if isinstance(piece, bytes) else piece.encode())
-            file.flush()
-            line, seconds, peak = answer(file.name)
-            numbers = f"{file.tell():9} {seconds:8.2f} {peak / 1000:8.0f}"
-            print(f"{name:40} {numbers}  {line}", flush=True)
-            needs.check(name, line == expected, f"{expected} was expected")
-    if not has_memory():
-        return needs.tell_checks("the largest area and the longest line for want of memory")
-    needs.check("the longest line prints the same lattice", is_alike_through_longest_line())
-    return needs.tell_checks()
-
-
-sys.exit(main())
+@pytest.mark.parametrize("name", [name for name, *_ in texts(1 << 16)])
+def test_text(program, memory, pytestconfig, tmp_path, name):
+    size = int(pytestconfig.getoption("mebibytes") * (1 << 20))
+    if name == LARGEST:
+        memory(4)
+    pieces, expected = next(found for it, *found in texts(size) if it == name)
+    with open(tmp_path / "scene", "wb") as file:
+        for piece in pieces:
+            file.write(piece if isinstance(piece, bytes) else piece.encode())
+    line, seconds, peak = answer(program, file.name)
+    bytes_read = (tmp_path / "scene").stat().st_size
+    print(f"{name:40} {bytes_read:9} bytes {seconds:8.2f} s {peak / 1000:8.0f} MB at most: {line}")
+    assert line == expected

@@ -1,28 +1,23 @@
-#!/usr/bin/env python3
-"""Runs the built program on inputs, tables and lines of the largest kinds. Every answer is known beforehand: from another text of the
-same lattice, from a C program, or because a full channel stays full. What needs more memory than is free is left out, and the last line
-says so. Ends with the counts."""
+"""Runs the built program on inputs, tables and lines of the largest kinds. Every answer is known
+beforehand: from another text of the same lattice, from a C program, or because a full channel stays
+full. What needs more memory than is free is skipped."""
 
 import hashlib
 import itertools
-import pathlib
 import resource
 import subprocess
-import sys
-import tempfile
 
-sys.path.append(f"{sys.path[0]}/../lib")
 import needs
+import pytest
 
-PROGRAM = needs.built_program()
+pytestmark = pytest.mark.alone
 LONGEST_INPUT = 67_108_864
 WIDTH = 65536
-GIGABYTE = 1 << 30
 
 
-def answer(words, path):
+def answer(program, words, path):
     """The status of the program on the text in a file, with the SHA-256 of its output and its message."""
-    words, pipes = [PROGRAM, *map(str, words)], dict.fromkeys(("stdout", "stderr"), subprocess.PIPE)
+    words, pipes = [program, *map(str, words)], dict.fromkeys(("stdout", "stderr"), subprocess.PIPE)
     with open(path, "rb") as text, subprocess.Popen(words, stdin=text, **pipes) as child:
         sums = hashlib.sha256()
         while block := child.stdout.read(1 << 20):
@@ -53,109 +48,83 @@ def write_area(path, rows):
     )
 
 
-def long_inputs(room):
+def by_c(by_bytes, words, given=b""):
+    """The SHA-256 of what the C program prints."""
+    return hashlib.sha256(needs.printed([by_bytes, *words], given)).hexdigest()
+
+
+def test_long_inputs(program, memory, tmp_path):
     """Maps of 60 MB and of the most bytes print what their areas print, and a byte more is refused."""
+    memory(4)
     run = ["run", "--generations", 3, "--stages", 3, "--capacity", 16]
     most_rows = (LONGEST_INPUT - 100) // (2 * WIDTH + 4)
     for rows, size in (60_000_000 // (2 * WIDTH), None), (most_rows, LONGEST_INPUT):
-        write_map(room / "map", rows, size)
-        write_area(room / "area", rows)
-        from_map, from_area = answer(run, room / "map"), answer(run, room / "area")
-        bytes_read = (room / "map").stat().st_size
-        is_alike = from_map == from_area and from_area[0] == 0
-        yield f"a map of {bytes_read} bytes", is_alike and bytes_read == (size or bytes_read)
-    with open(room / "map", "ab") as text:
+        write_map(tmp_path / "map", rows, size)
+        write_area(tmp_path / "area", rows)
+        from_map, from_area = (answer(program, run, tmp_path / it) for it in ("map", "area"))
+        assert from_map == from_area and from_area[0] == 0
+        assert size in (None, (tmp_path / "map").stat().st_size)
+    with open(tmp_path / "map", "ab") as text:
         text.write(b"\n")
     refused = 1, hashlib.sha256().hexdigest(), "input: too long\n"
-    yield "a byte more than the longest input", answer(run, room / "map") == refused
+    assert answer(program, run, tmp_path / "map") == refused
 
 
-def by_c(room, words, given=b""):
-    """The SHA-256 of what the C program prints."""
-    return hashlib.sha256(needs.printed([room / "bytes", *words], given)).hexdigest()
-
-
-def filled_area(room):
+def test_filled_area(program, memory, by_bytes, tmp_path):
     """An area with both sides above 5,000, filled and computed by the C program too."""
-    (room / "area").write_text(
+    memory(1)
+    (tmp_path / "area").write_text(
         'version = 2\ngas = "fhp-rest"\nseed = 11\nwidth = 5011\nheight = 5003\nrate = 250\n'
     )
-    wanted = 0, by_c(room, [4, 11, "fhp-rest", 5011, 5003, 250, 11]), ""
-    ours = answer(["run", "--generations", 4], room / "area")
-    yield "a filled area of 5011 x 5003", ours == wanted
+    wanted = 0, by_c(by_bytes, [4, 11, "fhp-rest", 5011, 5003, 250, 11]), ""
+    assert answer(program, ["run", "--generations", 4], tmp_path / "area") == wanted
 
 
-def many_blocks(room):
-    """A full channel stays full, so all blocks of a cell are alike."""
-    (room / "area").write_text('gas = "fhp1"\nwidth = 1453\nheight = 1447\nrate = 1000\n')
+def test_many_blocks(program, memory):
+    """A full channel stays full, so all 2,102,491 blocks of a cell are alike."""
+    memory(2)
+    area = b'gas = "fhp1"\nwidth = 1453\nheight = 1447\nrate = 1000\n'
     places = itertools.product(range(1447), range(1453))
     lines = "".join(f"{x:5} {y:5} {1:8} {6:9} {0:10} {0:10}\n" for y, x in places)
     words = "coarse --generations 2 --block-width 1 --block-height 1".split()
-    table = needs.printed([PROGRAM, *words], (room / "area").read_bytes()).decode()
-    yield "a table of 2,102,491 blocks", table.partition("\n")[2] == lines
+    is_so = needs.printed([program, *words], area).decode().partition("\n")[2] == lines
+    assert is_so  # and pytest shows no difference of so many lines
 
 
-def long_line(room):
-    """Thousands of rows are under way between 64 workers, in three passes."""
-    (room / "area").write_text(
+def test_many_passes(program, memory, tmp_path):
+    """A lone particle moves a cell per generation, and each pass of one worker makes one."""
+    memory(1)
+    path = tmp_path / "area"
+    path.write_text('gas = "hpp"\nwidth = 7\nheight = 1\nparticles = [[0, 0, 1]]\n')
+    ours = answer(program, ["run", "--generations", 600_001, "--stages", 1], path)
+    column = 600_001 % 7
+    text = f"generation 600001 particles 1\n{'..' * column}01{'..' * (6 - column)}\n"
+    assert ours == (0, hashlib.sha256(text.encode()).hexdigest(), "")
+
+
+def test_many_turns(program, memory):
+    """A full channel stays full. A member makes at most one event in a turn, and each of the two has two events per row."""
+    memory(1)
+    rows, turns = 40_000, 200_000
+    area = f'version = 2\ngas = "fhp1"\nwidth = 1\nheight = {rows}\nrate = 1000\n'
+    words = ["replay", "--generations", "1", "--stages", "1", *(["0", "1"] * (turns // 2))]
+    limited = lambda: resource.setrlimit(resource.RLIMIT_STACK, (1 << 26, 1 << 26))
+    printed = needs.printed([program, *words], area.encode(), preexec_fn=limited).decode()
+    belts = "".join(f"belt {belt} put {rows} taken {rows}\n" for belt in range(2))
+    is_so = printed == f"done\n{belts}generation 1 particles {6 * rows}\n" + "3f\n" * rows
+    assert is_so
+
+
+@pytest.mark.parametrize("threads", [64, 7])
+def test_long_line(program, memory, by_bytes, tmp_path, threads):
+    """6,000 rows go through 64 workers with 1,024 places in three passes, thousands of them at once."""
+    memory(4)
+    path = tmp_path / "area"
+    path.write_text(
         'version = 2\ngas = "fhp1"\nseed = 9\nwidth = 70\nheight = 6000\nrate = 300\n'
         "solid = [[60, 500, 10, 9], [0, 5990, 3, 10]]\n"
     )
-    start = needs.printed([PROGRAM, "run", "--generations", 0], (room / "area").read_bytes())
-    wanted = 0, by_c(room, [150, 9, "fhp1"], start), ""
-    plan = ["--stages", 64, "--capacity", 1024]
-    for threads in 64, 7:
-        ours = answer(["run", "--generations", 150, *plan, "--threads", threads], room / "area")
-        yield f"6,000 rows through 64 workers with 1,024 places on {threads} threads", ours == wanted
-
-
-def many_passes(room):
-    """A lone particle moves a cell per generation, and each pass of one worker makes one."""
-    (room / "area").write_text('gas = "hpp"\nwidth = 7\nheight = 1\nparticles = [[0, 0, 1]]\n')
-    ours = answer(["run", "--generations", 600_001, "--stages", 1], room / "area")
-    column = 600_001 % 7
-    text = f"generation 600001 particles 1\n{'..' * column}01{'..' * (6 - column)}\n"
-    yield "600,001 passes", ours == (0, hashlib.sha256(text.encode()).hexdigest(), "")
-
-
-def many_turns(room):
-    """A full channel stays full. A member makes at most one event in a turn, and each of the two has two events per row."""
-    rows, turns = 40_000, 200_000
-    (room / "area").write_text(
-        f'version = 2\ngas = "fhp1"\nwidth = 1\nheight = {rows}\nrate = 1000\n'
-    )
-    words = ["replay", "--generations", "1", "--stages", "1", *(["0", "1"] * (turns // 2))]
-    limited = lambda: resource.setrlimit(resource.RLIMIT_STACK, (1 << 26, 1 << 26))
-    known = {"input": (room / "area").read_bytes(), "capture_output": True, "preexec_fn": limited}
-    ended = subprocess.run([PROGRAM, *words], **known)
-    belts = "".join(f"belt {belt} put {rows} taken {rows}\n" for belt in range(2))
-    text = f"done\n{belts}generation 1 particles {6 * rows}\n" + "3f\n" * rows
-    yield "200,000 turns", (ended.returncode, ended.stdout.decode()) == (0, text)
-
-
-# The parts, and the free memory that each wants.
-PARTS = {
-    long_inputs: 4 * GIGABYTE,
-    filled_area: GIGABYTE,
-    many_blocks: 2 * GIGABYTE,
-    many_passes: GIGABYTE,
-    many_turns: GIGABYTE,
-    long_line: 4 * GIGABYTE,
-}
-
-
-def main():
-    left_out = []
-    with tempfile.TemporaryDirectory() as folder:
-        room = pathlib.Path(folder)
-        needs.compiled("tests/program/oracles/bytes.c", room / "bytes", "-O3", "-march=x86-64-v2")
-        for part, wanted in PARTS.items():
-            if needs.free_memory() < wanted:
-                left_out.append(f"{part.__name__} for want of memory")
-                continue
-            for name, is_right in part(room):
-                needs.check(name, is_right)
-    return needs.tell_checks(*left_out)
-
-
-sys.exit(main())
+    start = needs.printed([program, "run", "--generations", 0], path.read_bytes())
+    wanted = 0, by_c(by_bytes, [150, 9, "fhp1"], start), ""
+    plan = ["--stages", 64, "--capacity", 1024, "--threads", threads]
+    assert answer(program, ["run", "--generations", 150, *plan], path) == wanted

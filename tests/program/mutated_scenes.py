@@ -1,23 +1,21 @@
-#!/usr/bin/env python3
 """Runs the built program on random, mutated and spliced scenes, and compares its output with a
 second reading of the texts (second_reader.py): the line that refuses a text, or the line of `check`
 and the printed cells. If a text is refused, `explain` must say the same line and a reason. A text
-that may be TOML 1.1, which the second reader does not read, must be read or refused. Ends with the
-counts. Usage: tests/program/mutated_scenes.py [HOW_MANY [SEED]]"""
+that may be TOML 1.1, which the second reader does not read, must be read or refused. --scenes N
+reads that many random ones."""
 
 import itertools
 import random
 import re
 import subprocess
-import sys
 
-sys.path.append(f"{sys.path[0]}/../lib")
 import needs
+import pytest
 import second_reader
 from fhpgas import refusals
 
-PROGRAM = needs.built_program()
 MOST_CELLS = 1000
+PART = 300  # random scenes that are read together
 UNSURE = "unsure"
 NUMBERS = (
     '0|1|-1|4|63|64|1000|1001|4096|4097|9223372036854775807|9223372036854775808|1.0|true|"1"|'
@@ -130,13 +128,10 @@ def fed_back(printed):
     return ('gas = "fhp1"\ncells = [' + ", ".join(f'"{row}"' for row in rows) + "]\n").encode()
 
 
-def run(text, *words):
+def run(program, text, *words):
     """The status and what was printed, on standard error if standard output is empty."""
-    try:
-        known = {"input": text, "timeout": needs.PATIENCE}
-        done = subprocess.run([PROGRAM, *words], capture_output=True, **known)
-    except subprocess.TimeoutExpired as fault:
-        return None, str(fault)
+    known = {"input": text, "timeout": needs.PATIENCE}
+    done = subprocess.run([program, *words], capture_output=True, **known)
     if bool(done.stdout) == bool(done.stderr):
         return done.returncode, f"{done.stdout[:80]!r} and {done.stderr[:80]!r}"
     return done.returncode, (done.stdout or done.stderr).decode(errors="replace")
@@ -162,40 +157,21 @@ def explanation(text):
     return int(bool(found)), f"{found[0][0]}\n" if found else "", is_told
 
 
-class Counts:
-    def __init__(self):
-        self.kinds = {}
-        self.failed = 0
-        self.large = 0
-        self.unsure = 0
-        self.printed = []
-
-    def compare(self, text):
-        wanted = expected(text)
-        answer = run(text, "check")
-        if wanted is UNSURE:
-            self.unsure += answer[0] in (0, 1)
-            self.failed += answer[0] not in (0, 1)
-            return
-        if wanted is None:
-            self.large += answer[0] == 0
-            self.failed += answer[0] != 0
-            return
-        checked, printed = wanted
-        answers = [
-            (checked, answer),
-            (explanation(text), (answer[0], answer[1] if answer[0] else "", answer[0] == 1)),
-        ]
-        if answer[0] == 0:
-            answers.append((printed, run(text, "run", "--generations", "0")))
-            self.printed.append(answers[-1][1][1].encode())
-        for wanted, came in answers:
-            if wanted != came:
-                self.failed += 1
-                print(f"FAILED: {came} came and {wanted} was expected for {text!r}")
-                return
-        kind = "read" if answer[0] == 0 else re.sub(r"\d+", "N", answer[1].strip())
-        self.kinds[kind] = self.kinds.get(kind, 0) + 1
+def compared(program, text):
+    """The kind of the answer, and the printed cells of a scene, both None if the second reading says
+    no more than that a text is read or refused."""
+    wanted, answer = expected(text), run(program, text, "check")
+    if wanted is UNSURE or wanted is None:
+        assert answer[0] in ((0, 1) if wanted is UNSURE else (0,)), text
+        return None, None
+    checked, printed = wanted
+    assert answer == checked, text
+    told = answer[0], answer[1] if answer[0] else "", answer[0] == 1
+    assert explanation(text) == told, text
+    if answer[0]:
+        return re.sub(r"\d+", "N", answer[1].strip()), None
+    assert run(program, text, "run", "--generations", "0") == printed, text
+    return "read", printed[1].encode()
 
 
 # what a version may be, letters of two bytes and more, and columns of bytes and rows at the limits
@@ -210,11 +186,10 @@ LIMITS = {
 }
 
 
-def prefixes():
-    """Every prefix of three scenes."""
-    for name in ("drift", "obstacle", "square"):
-        text = (needs.ROOT / f"scenes/{name}.toml").read_bytes()
-        yield from (text[:length] for length in range(len(text) + 1))
+def prefixes(name):
+    """Every prefix of a scene."""
+    text = (needs.ROOT / f"scenes/{name}.toml").read_bytes()
+    return [text[:length] for length in range(len(text) + 1)]
 
 
 def areas():
@@ -248,42 +223,37 @@ def maps():
             yield f'{version}\ngas = "fhp1"\ncells = [{cells}]'.encode()
 
 
-def given_texts():
-    yield from itertools.chain(prefixes(), areas(), maps())
-
-
-def text_of(rng, counts):
+def text_of(rng, printed):
     kind = rng.random()
     if kind < 0.05:
         return rng.randbytes(rng.randrange(64))
     if kind < 0.25:
         return mutated(rng, spliced(rng, scene(rng), scene(rng)))
-    if kind < 0.35 and counts.printed:
-        return mutated(rng, fed_back(rng.choice(counts.printed)))
+    if kind < 0.35 and printed:
+        return mutated(rng, fed_back(rng.choice(printed)))
     return mutated(rng, scene(rng))
 
 
-def main():
-    how_many = int(sys.argv[1]) if len(sys.argv) > 1 else 3000
-    rng = random.Random(int(sys.argv[2]) if len(sys.argv) > 2 else 1)
-    counts = Counts()
-    given = list(given_texts())
-    for text in given:
-        counts.compare(text)
-    for _ in range(how_many):
-        counts.compare(text_of(rng, counts))
-    for kind in sorted(counts.kinds):
-        print(f"{counts.kinds[kind]:6} {kind}")
-    print(f"{counts.large:6} read, of more cells than the second reading takes")
-    print(f"{counts.unsure:6} read or refused, that may be TOML 1.1")
-    missing = 9 - len(counts.kinds)
-    if missing:
-        print(f"FAILED: {missing} kinds of answers did not come")
-    print(
-        f"{len(given) + how_many - counts.failed - counts.large - counts.unsure} passed,"
-        f" {counts.failed + missing} failed"
-    )
-    sys.exit(1 if counts.failed or missing else 0)
+GIVEN = {name: prefixes(name) for name in ("drift", "obstacle", "square")}
+GIVEN |= {"areas": [*areas()], "maps": [*maps()]}
 
 
-main()
+@pytest.mark.parametrize("name", GIVEN)
+def test_given(program, name):
+    for text in GIVEN[name]:
+        compared(program, text)
+
+
+def pytest_generate_tests(metafunc):
+    if "seed" in metafunc.fixturenames:
+        parts = range(-(-metafunc.config.getoption("scenes") // PART))
+        metafunc.parametrize("seed", parts)
+
+
+def test_random(program, seed):
+    rng, kinds, printed = random.Random(seed), set(), []
+    for _ in range(PART):
+        kind, cells = compared(program, text_of(rng, printed))
+        kinds.add(kind)
+        printed += [cells] if cells else []
+    assert seed or len(kinds - {None}) == 9  # answers, all of which come in the first part

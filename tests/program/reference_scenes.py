@@ -1,44 +1,33 @@
-#!/usr/bin/env python3
-"""Checks the twenty scenes of scenes/reference: the built program must print cells with the recorded SHA-256 after the recorded
-generations, and so must the C program of one byte a cell, which made the record. Ends with the counts."""
+"""Checks the twenty scenes of scenes/reference: the built program must print cells with the recorded
+SHA-256 after the recorded generations, and so must the C program of one byte a cell, which made the
+record."""
 
 import hashlib
-import pathlib
-import sys
-import tempfile
 import tomllib
 
-sys.path.append(f"{sys.path[0]}/../lib")
 import needs
+import pytest
 
 FOLDER = needs.ROOT / "scenes/reference"
-RECORD = FOLDER / "SHA256"
+RECORD = [line.split() for line in (FOLDER / "SHA256").read_text().splitlines()]
+each_record = pytest.mark.parametrize("recorded, generations, name", RECORD, ids=lambda it: it[:20])
 
 
-def sha256_by_c(room, scene, generations):
-    """The SHA-256 of what the C program prints for a scene of cells."""
-    table = tomllib.loads(scene)
-    chirality = str(table["seed"]) if table["chirality"] == "seeded" else table["chirality"]
+@each_record
+def test_program(program, recorded, generations, name):
+    words = [program, "run", "--generations", generations]
+    printed = needs.printed(words, (FOLDER / name).read_bytes())
+    assert hashlib.sha256(printed).hexdigest() == recorded
+
+
+@each_record
+def test_bytes_c(by_bytes, recorded, generations, name):
+    table = tomllib.loads((FOLDER / name).read_text())
+    chirality = table["seed"] if table["chirality"] == "seeded" else table["chirality"]
     start = "\n".join([f"generation {table['generation']} particles 0", *table["cells"], ""])
-    words = [room / "bytes", str(generations), chirality, table["gas"]]
-    return hashlib.sha256(needs.printed(words, start.encode())).hexdigest()
+    printed = needs.printed([by_bytes, generations, chirality, table["gas"]], start.encode())
+    assert hashlib.sha256(printed).hexdigest() == recorded
 
 
-def main():
-    lines = [line.split() for line in RECORD.read_text().splitlines()]
-    with tempfile.TemporaryDirectory() as folder:
-        room = pathlib.Path(folder)
-        needs.compiled("tests/program/oracles/bytes.c", room / "bytes", "-O3", "-march=x86-64-v2")
-        for recorded, generations, name in lines:
-            scene = (FOLDER / name).read_text()
-            words = [needs.built_program(), "run", "--generations", generations]
-            ours = hashlib.sha256(needs.printed(words, scene.encode())).hexdigest()
-            by_c = sha256_by_c(room, scene, generations)
-            for program, found in ("fhpgas", ours), ("bytes.c", by_c):
-                needs.check(f"{name} as {program} runs it", found == recorded)
-    scenes = len([*FOLDER.glob("*.toml")])
-    needs.check("each of twenty scenes has a record", scenes == len(lines) == 20)
-    return needs.tell_checks()
-
-
-sys.exit(main())
+def test_each_of_twenty_scenes_has_a_record():
+    assert len([*FOLDER.glob("*.toml")]) == len(RECORD) == 20

@@ -1,8 +1,9 @@
-#!/usr/bin/env python3
-"""Runs the program with standard error on a terminal: while generations are computed a line there shows how many, and is wiped before the
-program ends. Standard output has the same bytes as without a terminal, when standard error stays empty. A run that was not told its threads
-says after a while, once, how to choose them, one that was told or has one processor never. Then with standard input on a terminal, when it
-says that it awaits a scene. Ends with the counts."""
+"""Runs the program with standard error on a terminal: while generations are computed a line there
+shows how many, and is wiped before the program ends. Standard output has the same bytes as without a
+terminal, when standard error stays empty. A run that was not told its threads says after a while,
+once, how to choose them, one that was told or has one processor never. Then with standard input on a
+terminal, when it says that it awaits a scene."""
+
 import concurrent.futures
 import contextlib
 import os
@@ -10,20 +11,18 @@ import pathlib
 import pty
 import re
 import subprocess
-import sys
 import threading
 
-sys.path.append(f"{sys.path[0]}/../lib")
-import needs
+import pytest
 
-PROGRAM = needs.built_program()
+pytestmark = pytest.mark.alone
 SCENE = b'gas = "fhp1"\nwidth = 512\nheight = 512\nrate = 300\n'
 GENERATIONS = 5001  # which take long enough on any machine that a line is due
 BLOCKS = f"coarse --generations {GENERATIONS} --block-width 512 --block-height 512"
 WIPE = "\r\x1b[K"
 LINE = re.compile(re.escape(WIPE) + r"(\d+) of (\d+) generations \((\d+) %\)")
 HINT = f"{WIPE}fhpgas: --threads T prints the same bytes with T threads (docs/PERFORMANCE.md)\r\n"
-LONG_RUN = PROGRAM, "run", "--generations", "1000000"  # is ended when it has shown enough
+LONG_RUN = "run", "--generations", "1000000"  # is ended when it has shown enough
 
 
 def read_to_end(terminal, told):
@@ -33,11 +32,11 @@ def read_to_end(terminal, told):
             told.append(part)
 
 
-def on_terminal(words):
+def on_terminal(program, words):
     """The status, what came on standard output, and what the terminal showed."""
     ours, theirs = pty.openpty()
     pipes = dict(stdin=subprocess.PIPE, stdout=subprocess.PIPE, stderr=theirs)
-    process = subprocess.Popen([PROGRAM, *words.split()], **pipes)
+    process = subprocess.Popen([program, *words.split()], **pipes)
     os.close(theirs)
     told = []
     reader = threading.Thread(target=read_to_end, args=(ours, told))
@@ -59,27 +58,28 @@ def tells(told):
     return lines != [] and lines == sorted(lines) and right and rest == WIPE
 
 
-def is_told(words, is_long):
-    plain = subprocess.run([PROGRAM, *words.split()], input=SCENE, capture_output=True)
-    status, answer, told = on_terminal(words)
-    return (
-        (status, answer) == (plain.returncode, plain.stdout) == (0, plain.stdout)
-        and not plain.stderr
-        and (tells(told) if is_long else told == "")
-    )
+@pytest.mark.parametrize(
+    "words", [f"run --generations {GENERATIONS}", BLOCKS, "check", "run --generations 0"]
+)
+def test_progress(program, words):
+    plain = subprocess.run([program, *words.split()], input=SCENE, capture_output=True)
+    assert plain.returncode == 0 and not plain.stderr
+    status, answer, told = on_terminal(program, words)
+    assert (status, answer) == (0, plain.stdout)
+    assert tells(told) if str(GENERATIONS) in words else told == ""
 
 
-def awaits_scene():
+def test_scene_that_is_typed(program):
     ours, theirs = pty.openpty()
     pipes = dict(stdin=theirs, stdout=subprocess.PIPE, stderr=subprocess.PIPE)
-    process = subprocess.Popen([PROGRAM, "check"], **pipes)
+    process = subprocess.Popen([program, "check"], **pipes)
     os.close(theirs)
     os.write(ours, SCENE.replace(b"rate = 300", b"rate = 0") + b"\x04")
     answer, told = process.communicate()
     os.close(ours)
-    line = b"fhpgas: type a scene, and end it by Ctrl-D on a line of its own\n"
-    scene = b"gas fhp1 width 512 height 512 solid 0 particles 0\n"
-    return (process.returncode, answer, told) == (0, scene, line)
+    assert told == b"fhpgas: type a scene, and end it by Ctrl-D on a line of its own\n"
+    assert answer == b"gas fhp1 width 512 height 512 solid 0 particles 0\n"
+    assert process.returncode == 0
 
 
 def shown_until(is_enough, *command):
@@ -101,32 +101,13 @@ def shown_until(is_enough, *command):
     return told.rpartition(WIPE)[0]
 
 
-def is_said_once():
-    """Whether a run says the hint, and not with each of the lines that follow. Returns the number of lines as well."""
-    told = shown_until(lambda told: len(LINE.findall(told.partition(HINT)[2])) > 3, *LONG_RUN)
-    return LINE.sub("", told) == HINT, len(LINE.findall(told))
-
-
-def is_silent(said, *command):
-    """Whether a run shows as many lines of progress, and nothing else."""
+def lines_after(said, *command):
+    """What a run shows until it has as many lines of progress as the run that said the hint."""
 
     def is_enough(told):
-        return said.done() and len(LINE.findall(told)) > said.result()[1]
+        return said.done() and len(LINE.findall(told)) > len(LINE.findall(said.result()))
 
-    told = shown_until(is_enough, *command)
-    return LINE.sub("", told) == "" != told
-
-
-def hints():
-    """What is tried of the hint, and whether it is right. All runs go at once, because a hint takes some seconds."""
-    one = str(min(os.sched_getaffinity(0)))
-    with concurrent.futures.ThreadPoolExecutor() as pool:
-        said = pool.submit(is_said_once)
-        told = pool.submit(is_silent, said, *LONG_RUN, "--threads", "2")
-        alone = pool.submit(is_silent, said, "taskset", "--cpu-list", one, *LONG_RUN)
-        yield "the hint", said.result()[0]
-        yield "no hint with --threads", told.result()
-        yield "no hint on one processor", alone.result()
+    return shown_until(is_enough, *command)
 
 
 def can_choose():
@@ -136,10 +117,16 @@ def can_choose():
     return len(os.sched_getaffinity(0)) > 1 and (limit == "max" or int(limit) >= 2 * int(period))
 
 
-cases = {
-    words: is_told(words, words.count(str(GENERATIONS)))
-    for words in (f"run --generations {GENERATIONS}", BLOCKS, "check", "run --generations 0")
-}
-cases["a scene that is typed"] = awaits_scene()
-cases |= hints() if can_choose() else {}
-sys.exit(needs.tell_wrong((name, not is_right) for name, is_right in cases.items()))
+@pytest.mark.may_be_left_out
+@pytest.mark.skipif(not can_choose(), reason="one processor leaves nothing to choose")
+def test_hint(program):
+    """It is said once, and neither with --threads nor on one processor. All runs go at once, because a hint takes some seconds."""
+    run, one = (program, *LONG_RUN), str(min(os.sched_getaffinity(0)))
+    is_enough = lambda told: len(LINE.findall(told.partition(HINT)[2])) > 3
+    with concurrent.futures.ThreadPoolExecutor() as pool:
+        said = pool.submit(shown_until, is_enough, *run)
+        told = pool.submit(lines_after, said, *run, "--threads", "2")
+        alone = pool.submit(lines_after, said, "taskset", "--cpu-list", one, *run)
+    assert LINE.sub("", said.result()) == HINT
+    for silent in told.result(), alone.result():
+        assert LINE.sub("", silent) == "" != silent

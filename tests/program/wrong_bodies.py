@@ -1,8 +1,9 @@
 #!/usr/bin/env python3
-"""Compares where the gate refused the wrong bodies of must-fail/ with tests/program/wrong_bodies.txt: a crate and an edit, then the source
-file, the function and the clause of it that is false, or the goal if that is no clause. The first line is the kit's; a kit of another
-letter may come to another goal first, so only the files are compared then. The words after it are logs of `rt ci` or `rt must-fail`; with
---write these make the table. Fails if an edit of the table is in no log, or fell elsewhere. Ends with the counts."""
+"""Compares where the gate refused the wrong bodies of must-fail/ with tests/program/wrong_bodies.txt:
+a crate and an edit, then the source file, the function and the clause of it that is false, or the
+goal if that is no clause. The first line is the kit's; a kit of another letter may come to another
+goal first, so only the files are compared then. --gate LOG is the log of `rt ci`. As a script, with
+--write and logs of `rt ci` or `rt must-fail`, it writes what they say to the table."""
 
 import pathlib
 import re
@@ -10,6 +11,7 @@ import sys
 
 sys.path.append(f"{sys.path[0]}/../lib")
 import needs
+import pytest
 
 CRATES = needs.ROOT / "crates"
 TABLE = needs.ROOT / "tests/program/wrong_bodies.txt"
@@ -87,35 +89,48 @@ def read_table():
     return letter, {edit: tuple(place) for edit, *place in rows}
 
 
-def write_table(letter, places):
-    rows = [(edit, *place) for edit, place in sorted(places.items())]
+def read_log(path):
+    """The places at which a log says that edits were refused."""
+    tried = TRIED.findall(pathlib.Path(path).read_text(errors="replace"))
+    return {f"{crate}/{edit}": place(crate, told) for crate, edit, told in tried}
+
+
+EDITS = {f"{path.parts[-3]}/{path.stem}" for path in CRATES.glob("*/must-fail/*.edit")}
+RECORDED, PLACES = read_table()
+
+
+def kit():
+    return (needs.kit() or [RECORDED])[0]
+
+
+@pytest.fixture(scope="module")
+def found(pytestconfig):
+    log = pytestconfig.getoption("gate")
+    return read_log(log) if log else pytest.skip("--gate names no log of rt ci")
+
+
+@pytest.fixture(scope="module")
+def compared():
+    return 3 if kit() == RECORDED else 1
+
+
+@pytest.mark.parametrize("edit", sorted(EDITS | PLACES.keys()))
+def test_refused(found, compared, edit):
+    if edit not in PLACES:
+        pytest.skip(f"the table lacks {edit}")
+    assert edit in EDITS, "it is no edit"
+    assert found[edit][:compared] == PLACES[edit][:compared]
+
+
+def write(logs):
+    places = PLACES | {edit: it for log in logs for edit, it in read_log(log).items()}
+    rows = [(edit, *place) for edit, place in sorted(places.items()) if edit in EDITS]
     wide = [max(len(row[i]) for row in rows) + 2 for i in range(3)]
     lines = ("".join(f"{it:{n}}" for it, n in zip(row, [*wide, 0])) for row in rows)
-    TABLE.write_text("\n".join([letter, *lines]) + "\n")
+    TABLE.write_text("\n".join([kit(), *lines]) + "\n")
+    clauses = sum(bool(re.fullmatch(r"\w+", row[3])) for row in rows)
+    print(f"{clauses} of {len(EDITS)} edits are refused at a clause that their function promises")
 
 
-def main():
-    words = [word for word in sys.argv[1:] if word != "--write"]
-    logs = [pathlib.Path(word).read_text(errors="replace") for word in words]
-    tried = [it for log in logs for it in TRIED.findall(log)]
-    found = {f"{crate}/{edit}": place(crate, told) for crate, edit, told in tried}
-    edits = {f"{path.parts[-3]}/{path.stem}" for path in CRATES.glob("*/must-fail/*.edit")}
-    recorded, said = read_table()
-    letter = (needs.kit() or [recorded])[0]
-    if "--write" in sys.argv:
-        said = {edit: place for edit, place in (said | found).items() if edit in edits}
-        write_table(letter, said)
-        recorded = letter
-    compared = 3 if letter == recorded else 1
-    wrong = [f"{edit} is not in the log" for edit in sorted(said.keys() & edits - found.keys())]
-    wrong += [f"{edit} is no edit" for edit in sorted(said.keys() - edits)]
-    both = sorted(said.keys() & found.keys())
-    moved = [edit for edit in both if found[edit][:compared] != said[edit][:compared]]
-    wrong += [f"{edit} was refused at {' '.join(found[edit])}" for edit in moved]
-    clauses = sum(bool(re.fullmatch(r"\w+", it[2])) for it in said.values())
-    print(f"{clauses} of {len(edits)} edits are refused at a clause that their function promises")
-    left_out = [f"{edit}, which the table lacks" for edit in sorted(edits - said.keys())]
-    return needs.tell_faults(len(edits) - len(left_out), wrong, *left_out)
-
-
-sys.exit(main())
+if __name__ == "__main__" and sys.argv[1:2] == ["--write"]:
+    write(sys.argv[2:])

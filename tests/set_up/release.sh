@@ -79,7 +79,7 @@ tested() { awk -F '"' '/^name/ { name = $2 } /^version/ { version = $2 } /^sourc
 packed() { tar -tzf "$plain/fhpgas-$version-rust.tar.gz" | sed -n 's|^[^/]*/vendor/\([^/]*\)/.*|\1|p'; }
 try 'plain Rust has the crates that were tested, and no others' diff <(tested | sort) <(packed | sort -u)
 try 'its program says what it trusts' grep -q '(plain Rust, trusts the proofs of a draft of commit .*, not proved)' <("$plain/fhpgas-linux-x86_64" --version)
-FHPGAS=$plain/fhpgas-linux-x86_64 part tests/program/command_line.py
+FHPGAS=$plain/fhpgas-linux-x86_64 part pytests tests/program/command_line.py
 try 'and the crate for Rust' has_files "plain/fhpgas-$version.crate"
 try 'its wheel unpacks' "$python" -m zipfile -e "$plain"/fhpgas-*.whl "$room/plain"
 for level in v2 v3; do
