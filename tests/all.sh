@@ -10,8 +10,8 @@ parts() { local name; for name; do part "tests/$name"; done; }
 
 # sources: what needs no program
 sources() {
-    parts set_up/lint.sh documents/{links,sentences_and_words,definitions}.py package/{imports,derivation,tested_functions}.py
-    part pytests tests/program/code_without_contract.py
+    parts set_up/lint.sh package/{imports,derivation,tested_functions}.py
+    part pytests tests/documents/{links,sentences_and_words,definitions,proved}.py tests/program/code_without_contract.py
 }
 
 # examples NAME..: whether the sources print what these worked examples want, compiled once and without a proof
@@ -25,10 +25,9 @@ examples() {
 # few worked examples by `rt try`, in some minutes. Nothing is proved.
 quick() {
     sources
-    parts documents/proved.py
     if [ -n "${FHPGAS-}" ] || make -sq "$program"; then
-        part pytests tests/program/{command_line,help,mutated_scenes}.py --scenes 300
-        parts documents/printed_commands.py package/explanations.py "${package[@]}" package/commands.py
+        part pytests tests/program/{command_line,help,mutated_scenes}.py tests/documents/printed_commands.py --scenes 300
+        parts package/explanations.py "${package[@]}" package/commands.py
     elif has rt 'the program'; then
         part examples check_rectangles head_on_left obstacle_1 seeded_pairs filling coarse_uneven replay_done
     fi
@@ -37,8 +36,8 @@ quick() {
 # package: the package, the notebook, the page and the experiments, on the program that FHPGAS names, or on the engine and what make built.
 # Without the kit and a program it is what plain Rust builds.
 package() {
-    parts package/engine.py "${package[@]}" package/commands.py package/explanations.py package/wheel.py \
-        documents/printed_commands.py package/notebook.py page/browser.py
+    part pytests tests/documents/printed_commands.py
+    parts package/engine.py "${package[@]}" package/commands.py package/explanations.py package/wheel.py package/notebook.py page/browser.py
     ! has node "the page's kernel" || { part node tests/page/kernel.mjs; part tests/plain/calls.py page; part node tests/page/model.mjs; }
     parts package/tiles.py package/experiments.py
 }
@@ -82,22 +81,20 @@ case $1 in
         sources
         parts set_up/missing_libraries.sh set_up/makefile.sh
         part pytests tests/program/lost_wake_ups.py
-        CI='' part tests/documents/proved.py # the gate leaves no log of the C functions, `make` does
         [ ${#failed[@]} = 0 ] || exit 1
         if has rt 'the proofs, and the tests of help, terminal, refused memory, library, release and first change'; then
             gate
             part pytests tests/program/wrong_bodies.py --gate "$room/gate"
             part make -s engine
             plain
-            part pytests tests/program/{help,refused_memory}.py
-            part alone tests/program/terminal.py
-            parts documents/library.py set_up/release.sh documents/first_change.sh
+            part pytests tests/program/{help,refused_memory}.py tests/documents/library.py
+            part alone tests/program/terminal.py tests/documents/first_change.py
+            part tests/set_up/release.sh
         else
             plain
             export FHPGAS=$checked
         fi
-        part pytests tests/program/{command_line,cells_beside_{c,golly},reference_scenes,mutated_scenes}.py --scenes 5000
-        parts documents/version.py
+        part pytests tests/program/{command_line,cells_beside_{c,golly},reference_scenes,mutated_scenes}.py tests/documents/version.py --scenes 5000
         part alone tests/program/{large_scenes,largest_sizes}.py
         package
         mkdir -p out

@@ -1,18 +1,19 @@
 #!/usr/bin/env python3
-"""Says which definitions a reader of the public contracts must believe. With the name of a file it writes them there, as the page
-DEFINITIONS.md, by `make definitions`.
+"""Says which definitions a reader of the public contracts must believe. As a script it writes them to
+the file that is named, the page DEFINITIONS.md, by `make definitions`.
 
-A definition is an item of a crate's specs/. It must be believed if the contract of a public call names it, or another that must be believed
-does. A reader also meets the code's types that these definitions name, and the ghost members of public traits that public contracts name.
-The definitions of the kit's crates that all these reach are counted and named, but not shown: a kit of another letter may have others.
+A definition is an item of a crate's specs/. It must be believed if the contract of a public call
+names it, or another that must be believed does. A reader also meets the code's types that these
+definitions name, and the ghost members of public traits that public contracts name. The definitions
+of the kit's crates that all these reach are counted and named, but not shown: a kit of another letter
+may have others."""
 
-Fails if PROVED and README have other counts of lines (the kit's are left out without it), if a definition to be believed names a type
-that is not public, if one, or what a public call promises, cites a constant of the code instead of the number, and if a file of specs/ has
-a definition that need not be believed without saying in its first line that its words are inner ones. Ends with the counts."""
+import functools
 import pathlib
 import re
 import sys
 import textwrap
+import unittest
 
 sys.path.append(f"{sys.path[0]}/../lib")
 import antt
@@ -202,24 +203,6 @@ def types_of(believed):
         yield from (types[word] for word in definition.words() if word in types)
 
 
-def complaints(believed, known, public, limits):
-    """What files and public contracts do not agree on."""
-    for key in sorted(known):
-        where = f"{key[0]}/specs/{key[1].replace('.', '/')}.antt: {key[2]}"
-        is_inner = specs(*key[:2]).startswith(INNER)
-        if key not in believed and not is_inner:
-            yield f"{where} is cited by no public contract, and its file does not say that it holds inner words"
-        if key in believed and is_inner:
-            yield f"{where} is cited by a public contract, and its file says that it holds inner words"
-    for crate, kind in sorted(set(types_of(believed))):
-        is_public = re.compile(rf"^pub (?:struct|enum) {kind}\b", re.M).search
-        if not any(map(is_public, public[crate])):
-            yield f"{kind} of {crate} is named by a definition to be believed, and callers can't name it"
-    for key, definition in sorted(believed.items()):
-        for name in sorted(definition.words() & limits):
-            yield f"{key[2]} of {key[0]} must be believed, and cites {name}, a constant of the code"
-
-
 def contracts_of(public, limits):
     """What the public contracts cite, the ghost members that they name, by the traits, and which of their promises cite a constant of the
     code."""
@@ -237,43 +220,77 @@ def contracts_of(public, limits):
     return cited, {trait: items for trait, items in named.items() if items}, wrong
 
 
-def unsaid(own, of_kit):
-    """What documents do not say of the lines for answer, and of the kit's, if it is there."""
+class Read:
+    """What the sources have: `public` texts by their crates, the `known` definitions without proofs,
+    those to be `believed`, the code's own and `of_kit`, and the kit's `letter`."""
+
+    def __init__(self):
+        self.public = {it.name: list(public_texts(it.name)) for it in sorted(CRATES.iterdir())}
+        self.letter, kit = needs.kit() or (None, CRATES)  # without it its definitions are not found
+        definitions = antt.Definitions(lambda crate: (CRATES if is_own(crate) else kit) / crate)
+        for crate in self.public:
+            definitions.read_crate(crate)
+        proofs = lambda file: file.split(".")[0] in ("Lib", "Laws")  # that must be in specs/
+        self.known = {key: it for key, it in definitions.known.items() if not proofs(key[1])}
+        self.limits = constants()
+        self.cited, self.members, self.wrong = contracts_of(self.public, self.limits)
+        reached = definitions.reached(self.cited)
+        self.believed = {key: it for key, it in reached.items() if is_own(key[0])}
+        self.of_kit = {key: it for key, it in reached.items() if not is_own(key[0])}
+        answer = definitions.reached(ANSWER)
+        self.own_lines = lines_of(it for key, it in answer.items() if is_own(key[0]))
+
+
+@functools.cache
+def read():
+    return Read()
+
+
+def test_lines_for_answer():
     for name, words in SAID.items():
         text = " ".join((needs.ROOT / name).read_text().split())
-        for said in [words.format(own)] + [f"{of_kit:,} of the kit's"] * (of_kit > 0):
-            if f" {said}" not in text:
-                yield f"{name} does not say '{said}'"
+        assert f" {words.format(read().own_lines)}" in text
 
 
-def main():
-    public = {path.name: list(public_texts(path.name)) for path in sorted(CRATES.iterdir())}
-    letter, kit = needs.kit() or (None, CRATES)  # without the kit its definitions are not found
-    definitions = antt.Definitions(lambda crate: (CRATES if is_own(crate) else kit) / crate)
-    for crate in public:
-        definitions.read_crate(crate)
-    proofs = lambda file: file.split(".")[0] in ("Lib", "Laws")  # that must be in specs/
-    known = {key: it for key, it in definitions.known.items() if not proofs(key[1])}
-    limits = constants()
-    cited, members, wrong = contracts_of(public, limits)
-    reached = definitions.reached(cited)
-    believed = {key: it for key, it in reached.items() if is_own(key[0])}
-    of_kit = {key: it for key, it in reached.items() if not is_own(key[0])}
-    if sys.argv[1:]:
-        page = [HEAD_OF_PAGE, *of_the_code({*types_of(believed)}, members)]
-        page += (it for file in reading_order(believed) for it in shown(*file, believed))
-        page += of_the_kit(of_kit, letter) if letter else ()
-        pathlib.Path(sys.argv[1]).write_text("\n".join(page) + "\n")
-        return
-    own = lines_of(it for key, it in definitions.reached(ANSWER).items() if is_own(key[0]))
-    wrong += unsaid(own, lines_of(of_kit.values()))
-    wrong += complaints(believed, known, public, limits)
-    uses = cited.union(*(it.uses for it in known.values()))
-    lost = (key for key in sorted(uses - known.keys()) if is_own(key[0]))
-    wrong += (f"{'.'.join(key)} is cited, and no file defines it" for key in lost)
-    print(f"{own} lines for answer, and {lines_of(of_kit.values())} of the kit's crates")
-    left_out = [] if letter else ["the kit's definitions, because rt is missing"]
-    sys.exit(needs.tell_faults(len(known), wrong, *left_out))
+def test_lines_of_the_kit():
+    if not read().letter:
+        raise unittest.SkipTest("rt is missing")
+    for name in SAID:
+        text = " ".join((needs.ROOT / name).read_text().split())
+        assert f" {lines_of(read().of_kit.values()):,} of the kit's" in text
 
 
-main()
+def test_inner_words():
+    """What no public contract cites, and nothing else, is in files whose first line says so."""
+    inner = {key for key in read().known if specs(*key[:2]).startswith(INNER)}
+    assert inner == read().known.keys() - read().believed.keys()
+
+
+def test_callers_can_name_the_types():
+    for crate, kind in sorted(set(types_of(read().believed))):
+        is_public = re.compile(rf"^pub (?:struct|enum) {kind}\b", re.M).search
+        assert any(map(is_public, read().public[crate])), f"{kind} of {crate}"
+
+
+def test_no_promise_cites_a_constant_of_the_code():
+    assert not read().wrong
+    for key, definition in read().believed.items():
+        assert not definition.words() & read().limits, key
+
+
+def test_what_is_cited_is_defined():
+    uses = read().cited.union(*(it.uses for it in read().known.values()))
+    assert not [key for key in uses - read().known.keys() if is_own(key[0])]
+
+
+def page():
+    believed = read().believed
+    yield HEAD_OF_PAGE
+    yield from of_the_code({*types_of(believed)}, read().members)
+    for file in reading_order(believed):
+        yield from shown(*file, believed)
+    yield from of_the_kit(read().of_kit, read().letter) if read().letter else ()
+
+
+if __name__ == "__main__":
+    pathlib.Path(sys.argv[1]).write_text("\n".join(page()) + "\n")

@@ -1,17 +1,16 @@
-#!/usr/bin/env python3
-"""Looks up the links of the Markdown files that lead into the repository: the file must exist, and the anchor must be a heading's, by the
-rule of hosts such as GitHub. Links to other places are not tried. The table in docs/ARCHITECTURE.md must have the crates of crates.txt, and
-only these. Its lists of where to put a change name only what exists, and for a gas and a key also places in page/ and python/. The help of
-the program must have the commands and the columns of docs/FORMATS.md. Ends with the counts."""
+"""Looks up the links of the Markdown files that lead into the repository: the file must exist, and the
+anchor must be a heading's, by the rule of hosts such as GitHub. Links to other places are not tried.
+The table in docs/ARCHITECTURE.md must have the crates of crates.txt, and only these. Its lists of
+where to put a change name only what exists, and for a gas and a key also places in page/ and python/.
+The help of the program must have the commands and the columns of docs/FORMATS.md."""
 
 import collections
 import pathlib
 import re
-import sys
 import urllib.parse
 
-sys.path.append(f"{sys.path[0]}/../lib")
 import needs
+import pytest
 
 ROOT = needs.ROOT
 FENCE = re.compile(r"^ *(```|~~~).*?^ *\1", re.M | re.S)
@@ -95,52 +94,41 @@ def changes():
         yield change.split("\n")[0], places
 
 
-def faults_of_the_map():
-    """What the changes name and is not there, and what the ones that go through every room leave out."""
-    listed = dict(changes())
-    for change, places in listed.items():
-        yield from (f"{name} is not there" for name, there in places if not there)
-    for change in "Another gas", "Another key of a scene":
-        named = [there for _, there in listed.get(change, []) if there]
+@pytest.mark.parametrize("document", documents(), ids=lambda path: str(path.relative_to(ROOT)))
+def test_links(document):
+    found = (pair for pair in links(document.read_text()) if not ELSEWHERE.match(pair[0]))
+    faults = {f"line {line}: {link}": fault(document, link) for link, line in found}
+    assert not {where: why for where, why in faults.items() if why}
+
+
+@pytest.mark.sources
+def test_table_of_crates():
+    listed, told = crates()
+    assert listed == told
+
+
+@pytest.mark.sources
+@pytest.mark.parametrize(
+    "change, places", changes(), ids=lambda it: it if isinstance(it, str) else ""
+)
+def test_where_to_put_a_change(change, places):
+    assert not [name for name, there in places if not there]
+    named = [there for _, there in places]
+    if change in ("Another gas", "Another key of a scene"):
         for room in "crates", "python", "page":
-            if not any(ROOT / room in place.parents for place in named):
-                yield f"'{change}' names nothing in {room}/"
+            assert any(ROOT / room in place.parents for place in named), room
 
 
-def help_and_formats():
-    """The commands and the columns of the program's help, and the ones of docs/FORMATS.md, in order."""
+@pytest.mark.sources
+def test_help_and_formats():
+    """The commands and the columns of the program's help are the ones of docs/FORMATS.md, in order."""
     help_text = (ROOT / "crates/gas_tool_cli/src/help.rt").read_text()
     formats = (ROOT / "docs/FORMATS.md").read_text()
     table = formats.split("| column |")[1].split("\n\n")[0]
     rows = re.findall(r"^\| (`.*?) \|", table, re.M)
     columns = [name for row in rows for name in re.findall(r"`(\w+)`", row)]
     rows = re.findall(r"^  (\w+(?:, \w+)*)  +", help_text, re.M)
-    told = [name for names in rows for name in names.split(", ")]
+    assert columns == [name for names in rows for name in names.split(", ")] != []
     table = formats.split("## The command line")[1].split("\n\n## ")[0]
     commands = re.findall(r"^\| `(\w+)` \|", table, re.M)
-    return (re.findall(r'usage: "(?:\\\n)?fhpgas ([a-z]+)', help_text), commands), (told, columns)
-
-
-def faults_of_sources():
-    """The faults that the documents have of what the sources say."""
-    where = "docs/ARCHITECTURE.md"
-    one = f"stands in crates.txt or in the table of {where}, and not in both"
-    yield from (f"{name} {one}" for name in sorted(set.symmetric_difference(*crates())))
-    yield from (f"{where}, 'Where to put a change': {wrong}" for wrong in faults_of_the_map())
-    for told, written in help_and_formats():
-        if told != written or not told:
-            yield f"the program's help has {told}, docs/FORMATS.md {written}"
-
-
-def tried():
-    """The faults of sources, and each link with what is wrong with it, or None."""
-    if (ROOT / "crates.txt").exists():
-        yield from ((fault, True) for fault in faults_of_sources())
-    for document in documents():
-        for link, line in links(document.read_text()):
-            if not ELSEWHERE.match(link):
-                yield f"{document.relative_to(ROOT)}:{line}: {link}", fault(document, link)
-
-
-if __name__ == "__main__":
-    sys.exit(needs.tell_wrong(tried()))
+    assert commands == re.findall(r'usage: "(?:\\\n)?fhpgas ([a-z]+)', help_text) != []

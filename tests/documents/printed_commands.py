@@ -1,50 +1,50 @@
-#!/usr/bin/env python3
-"""Runs the commands of the documents as they are printed: a block marked `sh` must end with 0, and if the block after it is marked `text`,
-it must print that. The package is on the path. The blocks of a document follow one another in one folder. Documents go side by side. Those of FIRST are
-tried by the launcher too, as in a clone that has a plain build and no kit. Each message that docs/TROUBLE.md explains must stand in a source, and each start of the page that LESSON and GUIDE name in the page's. Ends with
-the counts."""
+"""Runs the commands of the documents as they are printed: a block marked `sh` must end with 0, and if
+the block after it is marked `text`, it must print that. The package is on the path. The blocks of a
+document follow one another in one folder. Those of FIRST are tried by the launcher too, as in a clone
+that has a plain build and no kit. Each message that docs/TROUBLE.md explains must stand in a source,
+and each start of the page that LESSON and GUIDE name in the page's."""
 
-import concurrent.futures
 import os
 import pathlib
 import platform
 import re
 import shutil
 import subprocess
-import sys
-import tempfile
 
-sys.path.append(f"{sys.path[0]}/../lib")
 import needs
+import pytest
 
-PROGRAM = needs.built_program()
-needs.libraries()
-os.environ["PYTHONPATH"] = str(needs.ROOT / "python")
 PLAIN = needs.ROOT / "out/checked"
 FIRST = "README.md", "GUIDE.md", "FORMATS.md"
 DOCUMENTS = [needs.ROOT / "README.md", *sorted((needs.ROOT / "docs").glob("*.md"))]
 SOURCES = [str(it.relative_to(needs.ROOT)) for it in (needs.ROOT / "crates").glob("*/src")]
-HAS_PLAIN, IS_ARCHIVE = (PLAIN / "fhpgas").exists(), not (needs.ROOT / "crates.txt").exists()
 BLOCK = re.compile(r"^```(\w*)\n(.*?)^```$", re.M | re.S)
 
 
-def fault(commands, wanted, room, environment):
-    """What is wrong if a block does not end with 0, or prints other text than `wanted` (None: any), or something on standard error."""
+@pytest.fixture
+def room(tmp_path):
+    needs.libraries()
+    for name in "scenes", "experiments":
+        (tmp_path / name).symlink_to(needs.ROOT / name)
+    return tmp_path
+
+
+def follow(document, room, environment):
+    """Runs the blocks of a document."""
+    blocks = BLOCK.findall(document.read_text())
     known = {"capture_output": True, "text": True, "timeout": needs.PATIENCE, "env": environment}
-    try:
-        ran = subprocess.run(["bash", "-ec", commands], cwd=room, **known)
-    except subprocess.TimeoutExpired as late:
-        return str(late)
-    if ran.returncode == 0 and not ran.stderr and wanted in (None, ran.stdout):
-        return None
-    return f"status {ran.returncode}: {ran.stdout}{ran.stderr}"
+    for (kind, commands), (after, text) in zip(blocks, blocks[1:] + [("", "")]):
+        if kind == "sh":
+            ran = subprocess.run(["bash", "-ec", commands], cwd=room, **known)
+            assert (ran.returncode, ran.stderr) == (0, ""), commands
+            assert after != "text" or ran.stdout == text, commands
 
 
-def with_program(room):
-    """Puts the program where the documents have it. Returns the environment of their commands."""
-    for name, path in {"python": needs.ROOT / "python", "fhpgas": PROGRAM}.items():
+@pytest.mark.parametrize("document", DOCUMENTS, ids=lambda path: path.name)
+def test_by_program(program, room, document):
+    for name, path in {"python": needs.ROOT / "python", "fhpgas": program}.items():
         (room / name).symlink_to(path)
-    return os.environ
+    follow(document, room, os.environ | {"PYTHONPATH": str(needs.ROOT / "python")})
 
 
 def with_launcher(room):
@@ -65,19 +65,14 @@ def with_launcher(room):
     return known | {"PATH": path, "PYTHONPATH": str(room / "python")}
 
 
-def tried(document, prepare):
-    """Per block of a document its commands, and what is wrong with it."""
-    blocks = BLOCK.findall(document.read_text())
-    with tempfile.TemporaryDirectory() as name:
-        room = pathlib.Path(name)
-        for name in "scenes", "experiments":
-            (room / name).symlink_to(needs.ROOT / name)
-        environment = prepare(room)
-        for (kind, commands), (after, text) in zip(blocks, blocks[1:] + [("", "")]):
-            if kind == "sh":
-                yield commands, fault(
-                    commands, text if after == "text" else None, room, environment
-                )
+@pytest.mark.sources
+@pytest.mark.skipif(
+    not (PLAIN / "fhpgas").exists(), reason="plain/build.sh out/checked checked was not run"
+)
+@pytest.mark.parametrize("name", FIRST)
+def test_by_launcher(room, name):
+    document = next(it for it in DOCUMENTS if it.name == name)
+    follow(document, room, with_launcher(room))
 
 
 def words_of_sources():
@@ -90,44 +85,32 @@ def words_of_sources():
     return [re.sub(r'"\s*f?"', "", " ".join(text.split())) for text in texts]
 
 
+@pytest.fixture(scope="module")
+def sources():
+    return words_of_sources()
+
+
 def messages():
-    """The messages that docs/TROUBLE.md explains, and whether a source has them: the parts between `..` stand in one file, in this order.
-    An archive lacks the sources."""
-    sources = words_of_sources() if (needs.ROOT / "crates.txt").exists() else []
-    page = (needs.ROOT / "docs/TROUBLE.md").read_text() if sources else ""
+    page = (needs.ROOT / "docs/TROUBLE.md").read_text()
     for item in re.findall(r"^- (`.*?`(?:, `.*?`)*):", " ".join(page.split("\n  ")), re.M):
-        for message in re.findall(r"`(.*?)`", item):
-            parts = map(re.escape, (part.strip() for part in message.split("..")))
-            pattern = re.compile(".{1,80}?".join(parts))
-            yield message, any(map(pattern.search, sources))
+        yield from re.findall(r"`(.*?)`", item)
+
+
+@pytest.mark.sources
+@pytest.mark.parametrize("message", messages())
+def test_message(sources, message):
+    """The parts between `..` stand in one file, in this order."""
+    parts = (re.escape(part.strip()) for part in message.split(".."))
+    assert any(map(re.compile(".{1,80}?".join(parts)).search, sources))
 
 
 def starts():
-    """The starts of the page that docs/LESSON.md and docs/GUIDE.md name, and whether the page has them."""
-    sources = (needs.ROOT / "page/src/presets.js").read_text()
+    """The starts of the page that docs/LESSON.md and docs/GUIDE.md name."""
     lesson, guide = ((needs.ROOT / f"docs/{name}.md").read_text() for name in ("LESSON", "GUIDE"))
     named = lesson + guide.partition("## It moves")[2].split("```")[0]
-    for name in re.findall(r'"([^"]+)"', named):
-        name = " ".join(name.split())
-        yield name, f'"{name}": {{' in sources
+    return [" ".join(name.split()) for name in re.findall(r'"([^"]+)"', named)]
 
 
-def all_tried():
-    """Each case, and what is wrong with it."""
-    for what, named in ("message of docs/TROUBLE.md", messages()), ("start of the page", starts()):
-        yield from ((f"no source has the {what}: {name}", not is_so) for name, is_so in named)
-    cases = [(document, with_program) for document in DOCUMENTS]
-    cases += [(it, with_launcher) for it in DOCUMENTS if it.name in FIRST and HAS_PLAIN]
-    with concurrent.futures.ThreadPoolExecutor(os.cpu_count()) as pool:
-        blocks = pool.map(lambda case: list(tried(*case)), cases)
-        for (document, prepare), found in zip(cases, blocks):
-            for commands, wrong in found:
-                yield f"{document.name} {prepare.__name__.replace('_', ' ')}: {commands}", wrong
-
-
-for case, why in all_tried():
-    needs.check(case, not why, "" if why is True else why or "")
-left_out = (
-    [] if HAS_PLAIN or IS_ARCHIVE else ["the launcher, without plain/build.sh out/checked checked"]
-)
-sys.exit(needs.tell_checks(*left_out))
+@pytest.mark.parametrize("name", starts())
+def test_start(name):
+    assert f'"{name}": {{' in (needs.ROOT / "page/src/presets.js").read_text()

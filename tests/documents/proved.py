@@ -1,17 +1,17 @@
-#!/usr/bin/env python3
-"""Compares docs/PROVED.md with the sources: each item of its promises names clauses, and the linked file has a function of that name with
-these clauses. It also compares the C functions that the page lists with those that the kit names in the log of the program, which `make`
-leaves; without a log these are left out. Ends with the counts."""
+"""Compares docs/PROVED.md with the sources: each item of its promises names clauses, and the linked
+file has a function of that name with these clauses. It also compares the C functions that the page
+lists with those that the kit names in the log of the program, which `make` leaves."""
 
 import re
-import sys
 
-sys.path.append(f"{sys.path[0]}/../lib")
 import needs
+import pytest
 
 PAGE = needs.ROOT / "docs/PROVED.md"
 LOG = needs.ROOT / "crates/fhpgas/out/build.log"
 PROMISES = ("## The promises", "## What only tests show")
+TEXT = PAGE.read_text()
+FILES = dict(re.findall(r"^\[([\w:]+)\]: (\S+)$", TEXT, re.M))
 CITED = re.compile(r"\[(`\w+`(?:,\s+`\w+`)*)\]\[([\w:]+)\]")
 
 
@@ -38,25 +38,22 @@ def assumed(log):
     return " ".join(f"{crate}: {names}" for crate, names in named.items() if names)
 
 
-def complaints(page):
-    if LOG.exists():
-        reached = assumed(LOG.read_text(errors="replace"))
-        if reached not in " ".join(page.split()):
-            yield f"the C functions are {reached}"
-    files = dict(re.findall(r"^\[([\w:]+)\]: (\S+)$", page, re.M))
-    for names, call in CITED.findall(page):
-        path = PAGE.parent / files[call]
-        owner, _, function = call.rpartition("::")
-        has = clauses(path).get((owner, function), set())
-        for name in re.findall(r"\w+", names):
-            if name not in has:
-                yield f"{files[call]} has no clause {name} of {call}"
-    promises = page[page.index(PROMISES[0]) : page.index(PROMISES[1])]
-    for item in re.split(r"\n(?=- )|\n\n", promises):
-        if item.startswith("- ") and not CITED.search(item):
-            yield f"no clause is named: {' '.join(item.split())[:100]}"
+@pytest.mark.may_be_left_out  # the gate leaves no log of the program, `make` does
+@pytest.mark.skipif(
+    not LOG.exists(), reason="make left no log of the program, with the C functions"
+)
+def test_c_functions():
+    assert assumed(LOG.read_text(errors="replace")) in " ".join(TEXT.split())
 
 
-page = PAGE.read_text()
-left_out = [] if LOG.exists() else ["the C functions, because make left no log of the program"]
-sys.exit(needs.tell_faults(len(CITED.findall(page)), [*complaints(page)], *left_out))
+@pytest.mark.parametrize("names, call", CITED.findall(TEXT))
+def test_clauses(names, call):
+    owner, _, function = call.rpartition("::")
+    has = clauses(PAGE.parent / FILES[call]).get((owner, function), set())
+    assert {*re.findall(r"\w+", names)} <= has
+
+
+def test_each_promise_names_a_clause():
+    promises = TEXT[TEXT.index(PROMISES[0]) : TEXT.index(PROMISES[1])]
+    items = (it for it in re.split(r"\n(?=- )|\n\n", promises) if it.startswith("- "))
+    assert not [item for item in items if not CITED.search(item)]

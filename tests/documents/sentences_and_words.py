@@ -1,13 +1,12 @@
-#!/usr/bin/env python3
-"""Reads the documents as text. Prints how many words each has, and how many sentences of more than forty words, with --list these too. A
-word has a letter or a digit, so bars of tables are none. Code, tables and headings have no sentences. Paragraphs and items of lists begin
-sentences. Fails if a document has a long sentence and is not in LONG, or more words than MOST_OF it, or if all of them, without OWN, have
-more than MOST. Ends with the counts."""
+"""Reads the documents as text. A word has a letter or a digit, so bars of tables are none. Code,
+tables and headings have no sentences. Paragraphs and items of lists begin sentences. Fails if a
+document has a sentence of more than MOST_WORDS and is not in LONG, or more words than MOST_OF it, or
+if all of them, without OWN, have more than MOST."""
 
 import re
-import sys
 
 import links
+import pytest
 
 MOST_WORDS = 40
 MOST = 24_000
@@ -32,25 +31,16 @@ def number_of_words(text):
     return sum(bool(re.search(r"\w", word)) for word in text.split())
 
 
-def fault(name, text):
-    """What is wrong with a document, or nothing. Prints its line of counts."""
-    found = [it for it in sentences(text) if len(it.split()) > MOST_WORDS]
-    number = number_of_words(text)
-    print(f"{number:6} words, {len(found):3} long sentences in {name}")
-    if sys.argv[1:] == ["--list"]:
-        print("\n".join(f"    {it}" for it in found))
-    wrong = [f"a long sentence: {it}" for it in found if name not in LONG]
-    most = MOST_OF.get(name, number)
-    wrong += [f"more than {most} words"] * (number > most)
-    return "\n    ".join(wrong)
+TEXTS = {str(path.relative_to(links.ROOT)): path.read_text() for path in links.documents()}
 
 
-def tried():
-    texts = {str(path.relative_to(links.ROOT)): path.read_text() for path in links.documents()}
-    yield from ((name, fault(name, text)) for name, text in texts.items())
-    number = sum(number_of_words(it) for name, it in texts.items() if name not in OWN)
-    print(f"{number} words in all")
-    yield f"all have at most {MOST} words", number > MOST
+@pytest.mark.parametrize("name", TEXTS)
+def test_document(name):
+    found = [it for it in sentences(TEXTS[name]) if len(it.split()) > MOST_WORDS]
+    assert name in LONG or not found
+    number = number_of_words(TEXTS[name])
+    assert number <= MOST_OF.get(name, number)
 
 
-sys.exit(links.needs.tell_wrong(tried()))
+def test_words_of_all():
+    assert sum(number_of_words(text) for name, text in TEXTS.items() if name not in OWN) <= MOST

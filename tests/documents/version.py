@@ -1,6 +1,7 @@
 #!/usr/bin/env python3
-"""Compares version, date and address everywhere with their home, CITATION.cff, and the program with it. With --write it writes them to the
-other places. A version without a date is `unreleased`, and CHANGELOG dates only what has a tag. Ends with the counts."""
+"""Compares version, date and address everywhere with their home, CITATION.cff. With --write it writes
+them to the other places. A version without a date is `unreleased`, and CHANGELOG dates only what has a
+tag. (command_line.py compares the program with the home.)"""
 
 import re
 import subprocess
@@ -19,24 +20,20 @@ PLACES = {  # what is before and after the place, what --write may replace, and 
 }
 
 
-def said_by(*words):
-    return subprocess.check_output(words, text=True, cwd=needs.ROOT).split()
+def test_places():
+    for name, (before, after, _, new) in PLACES.items():
+        assert before + new + after in (needs.ROOT / name).read_text(), name
 
 
-def places(is_written):
-    """Each place, and whether it has what the home says."""
-    for name, (before, after, old, new) in PLACES.items():
-        path = needs.ROOT / name
-        text, wanted = path.read_text(), before + new + after
-        if is_written:
-            text = re.sub(re.escape(before) + old + re.escape(after), lambda _: wanted, text, 1)
-            path.write_text(text)
-        yield f"{name} has {new}", wanted in text
-    yield f"fhpgas --version has {NUMBER}", said_by(needs.built_program(), "--version")[1] == NUMBER
+def test_what_changelog_dates_has_a_tag():
     dated = re.findall(r"^## ([\d.]+), \d", (needs.ROOT / "CHANGELOG.md").read_text(), re.M)
-    tags = {f"v{NUMBER}", *said_by("git", "tag")}  # the version of today is dated before its tag
-    yield "what CHANGELOG dates has a tag", {f"v{number}" for number in dated} <= tags
+    tags = subprocess.check_output(["git", "tag"], text=True, cwd=needs.ROOT).split()
+    # the version of today is dated before its tag
+    assert {f"v{number}" for number in dated} <= {f"v{NUMBER}", *tags}
 
 
-checked = places(sys.argv[1:] == ["--write"])
-sys.exit(needs.tell_wrong((what, not is_so) for what, is_so in checked))
+if __name__ == "__main__" and sys.argv[1:] == ["--write"]:
+    for name, (before, after, old, new) in PLACES.items():
+        path, place = needs.ROOT / name, re.escape(before) + old + re.escape(after)
+        wanted = before + new + after
+        path.write_text(re.sub(place, lambda _: wanted, path.read_text(), 1))

@@ -65,7 +65,7 @@ try 'it needs the C library alone' needs_libc
 
 try 'make lists there what it can do, and no error' lists
 try 'it has the definitions' grep -q '^## .gas_geom/specs/Fhp1.antt' "$folder/docs/DEFINITIONS.md"
-try 'the links of its documents lead to what is in it' "$folder/tests/documents/links.py"
+try 'the links of its documents lead to what is in it' "$python" -m pytest -q "$folder/tests/documents/links.py"
 path=${python%/*}
 try 'the Python package finds the program' alone python3 -m fhpgas over-time scenes/wind.toml 2 1 > "$room/told"
 try 'it has an engine of its own' runs_inside
