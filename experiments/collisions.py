@@ -73,6 +73,7 @@ def print_sums(gas):
         print(f"formula {theory.galilean_factor(gas, d):.4f}")
 
 
+@common.experiment
 def main():
     asked = common.Options("the states that collide, before and after", common.GASES).parse_args()
     gas = fhpgas.gas_named(asked.gas)
@@ -90,7 +91,3 @@ def main():
         print_sums(gas)
     if asked.picture:
         draw(asked.picture, gas, changed, left, right)
-
-
-if __name__ == "__main__":
-    common.experiment(main)

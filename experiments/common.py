@@ -60,9 +60,10 @@ class Options(fault.Parser):
 
 
 def experiment(main):
-    """Runs the main function of a script, whose faults are one line."""
-    with fault.one_line_faults(pathlib.Path(sys.argv[0]).name):
-        main()
+    """Runs the last function of the script that was started, whose faults are one line."""
+    if main.__module__ == "__main__":
+        with fault.one_line_faults(pathlib.Path(sys.argv[0]).name):
+            main()
 
 
 def runs(measured, asked):

@@ -50,6 +50,7 @@ def draw(path, asked, times, means, errors, most):
         ax.legend(fontsize=8)
 
 
+@common.experiment
 def main():
     figure = "the entropy on the way there, back, and back with one particle not turned"
     reader = common.Options(figure, common.GASES, seeds=(8, 4))
@@ -67,7 +68,3 @@ def main():
     print(f"filled evenly {most:.4f}")
     if asked.picture:
         draw(asked.picture, asked, times, means, errors, most)
-
-
-if __name__ == "__main__":
-    common.experiment(main)

@@ -15,8 +15,7 @@ TIMES = STEP * np.arange(PARTS + 1)
 
 
 def places(asked, momenta):
-    """The place of the wave over time, from the momenta northwards [time, block] of blocks of
-    columns."""
+    """The wave's place over time, from the momenta northwards [time, block of columns]."""
     turns = np.exp(-2j * np.pi * BLOCK * np.arange(np.shape(momenta)[1]) / asked.wave)
     phases = np.unwrap(np.angle(np.asarray(momenta) @ turns))
     return (phases[0] - phases) * asked.wave / 2 / np.pi
@@ -54,6 +53,7 @@ def draw(path, asked, waves):
         left.legend(fontsize=8), right.legend(fontsize=8)
 
 
+@common.experiment
 def main():
     reader = common.Options("the waves' way, and g over d", common.FLUIDS, seeds=(8, 4))
     reader.fillings([0.2, 0.5])
@@ -76,7 +76,3 @@ def main():
         waves.append((filling, *fhpgas.mean_and_error(runs), found))
     if asked.picture:
         draw(asked.picture, asked, waves)
-
-
-if __name__ == "__main__":
-    common.experiment(main)

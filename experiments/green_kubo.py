@@ -70,6 +70,7 @@ def draw(path, asked, runs, kept, pairs, matrix):
         left.legend(), right.legend()
 
 
+@common.experiment
 def main():
     figure = "the correlation of the stress, and the spectrum of a wave of the density"
     reader = common.Options(figure, common.FLUIDS, seeds=(8, 4))
@@ -96,7 +97,3 @@ def main():
     common.compare("damping D", dampings, np.mean(modes.real / K**2))
     if asked.picture:
         draw(asked.picture, asked, runs, kept, pairs, matrices[0])
-
-
-if __name__ == "__main__":
-    common.experiment(main)

@@ -51,6 +51,7 @@ def draw(path, momenta, streams, step):
             ax.legend(fontsize=8)
 
 
+@common.experiment
 def main():
     reader = common.Options("the momenta over time, and the streams")
     reader.option("--size", common.whole(16, 256), 128, 48, "columns and rows; even", metavar="N")
@@ -64,7 +65,3 @@ def main():
     streams = {gas: stream(gas, asked.size, step) for gas in ("hpp", "fhp1")}
     if asked.picture:
         draw(asked.picture, momenta, streams, step)
-
-
-if __name__ == "__main__":
-    common.experiment(main)

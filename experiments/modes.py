@@ -19,8 +19,7 @@ def matrix(asked, wave):
 
 
 class Wave:
-    """The shear and the sound in a channel of so many rows. A half turn continues them behind a
-    wall."""
+    """The shear and the sound in a channel of so many rows, which a half turn continues."""
 
     def __init__(self, asked, rows):
         self.asked, self.gas = asked, fhpgas.gas_named(asked.gas)
@@ -74,6 +73,7 @@ def draw(path, asked, waves, found):
         left.legend(fontsize=8)
 
 
+@common.experiment
 def main():
     reader = common.Options("all modes' rates", common.FLUIDS, seeds=(8, 4))
     reader.chirality()
@@ -90,7 +90,3 @@ def main():
     print("waves that never fade:", *(f"({x:.3f}, {y:.3f})" for x, y in at[most > 1 - 1e-9]))
     if asked.picture:
         draw(asked.picture, asked, waves, found)
-
-
-if __name__ == "__main__":
-    common.experiment(main)

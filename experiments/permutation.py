@@ -17,8 +17,7 @@ COPIES, MOST_BITS, MOST_SMALL = 16_384, 24, 18
 
 
 class Small:
-    """A lattice of a few cells, whose state is a number: the bits of its fluid cells in a row.
-    `after` is the state one generation after each."""
+    """A lattice of a few cells, whose state is a number: the bits of its fluid cells in a row."""
 
     def __init__(self, asked, drawing):
         self.flow = dict(gas=asked.gas, chirality=asked.chirality)
@@ -66,6 +65,7 @@ def draw(path, asked, found):
         right.legend(fontsize=8)
 
 
+@common.experiment
 def main():
     reader = common.Options("the cycles, and how soon states return", common.GASES)
     reader.option("--chirality", str, *["left"] * 2, "left or right", choices=("left", "right"))
@@ -85,7 +85,3 @@ def main():
         found.append((lattice.name, lengths))
     if asked.picture:
         draw(asked.picture, asked, found)
-
-
-if __name__ == "__main__":
-    common.experiment(main)

@@ -6,8 +6,8 @@ odd viscosity of a chiral gas.
 (`--along`), which makes another slip. To the mean of the rows' velocities before and after the
 turnings, and of the seeds, a parabola u = F (zero^2 - y^2) / (2 b d viscosity) is fitted. In H rows
 it ends at zero^2 = H^2 / 4 + K squared rows, with one slip K for every H. Errors are a jackknife's
-over the seeds. In a chiral gas a shear changes the density
-by -b d odd viscosity / c^2 du/dy. Theory: the same with the noise-free Boltzmann equation.
+over the seeds. In a chiral gas a shear changes the density by -b d odd viscosity / c^2 du/dy.
+Theory: the same with the noise-free Boltzmann equation.
 "Formula" is its stationary solution for a weak force in every generation (`fhpgas.theory.slip`)."""
 import common
 import fhpgas
@@ -20,8 +20,7 @@ NAMES = "viscosity", "slip K", "odd viscosity", "speed in the middle"
 
 
 class Channel:
-    """A channel of so many rows, with the force and the times for the asked speed in the middle,
-    from theory."""
+    """A channel of so many rows, with theory's force and times for the asked speed."""
 
     def __init__(self, asked, rows):
         self.gas, self.filling, self.rows = fhpgas.gas_named(asked.gas), asked.filling, rows
@@ -93,6 +92,7 @@ def draw(path, asked, channel, profiles, slips):
         left.legend(fontsize=8), right.legend(fontsize=8)
 
 
+@common.experiment
 def main():
     figure = "the profile with its parabola, what is left, and the slip"
     reader = common.Options(figure, common.FLUIDS, seeds=(8, 4))
@@ -119,7 +119,3 @@ def main():
         print(f"formula: {name} {round(value, 3) + 0.0:.3f}")
     if asked.picture:
         draw(asked.picture, asked, channel, profiles, slips)
-
-
-if __name__ == "__main__":
-    common.experiment(main)

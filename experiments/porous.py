@@ -52,6 +52,7 @@ def medium(asked):
     return solid | (pores != np.bincount(pores[~solid]).argmax())
 
 
+@common.experiment
 def main():
     reader = common.Options("the flux, and the flow", common.FLUIDS, "fhp-rest", seeds=(8, 4))
     reader.filling(0.1, 0.6, 0.2)
@@ -78,7 +79,3 @@ def main():
         fluxes.append(fhpgas.mean_and_error(found))
     if asked.picture:
         draw(asked.picture, asked, fluxes, theories[0] / asked.force[0], sum(blocks[1:], blocks[0]))
-
-
-if __name__ == "__main__":
-    common.experiment(main)

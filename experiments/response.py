@@ -5,10 +5,10 @@ closure.
 The directions of a gas without momentum are filled with d (1 + SHARE s), where s = 1 to the
 north-east and south-west, -1 to the north-west and south-east. By Green and Kubo the share of this
 stress that is left after t generations is C(t), and the viscosity (1/2 + C(1) + .. + C(t)) / 4. It
-is measured in the rows that the walls have not reached, after EACH generations in every `--step`-th.
-Boltzmann's equation begins with the same chances. "Above it" is measured / Boltzmann
-- 1 in percent, "pairs" the same of the pair closure (`fhpgas.theory.pair_viscosity`). With `--triples` three particles at equal angles collide with this
-chance: the others are turned before the collision, which turns them back."""
+is measured in the rows that the walls have not reached, after EACH generations in each `--step`-th.
+Boltzmann's equation begins with the same chances. "Above it" is measured / Boltzmann - 1 in
+percent, "pairs" the same of the closure (`fhpgas.theory.pair_viscosity`). With `--triples` three
+particles at equal angles collide with this chance: the others turn before it, and so back."""
 import common
 import fhpgas
 import numpy as np
@@ -80,6 +80,7 @@ def draw(path, asked, found):
         ax.legend(fontsize=8)
 
 
+@common.experiment
 def main():
     reader = common.Options("the viscosity up to each generation", common.FLUIDS, seeds=(16, 4))
     reader.chirality()
@@ -108,7 +109,3 @@ def main():
         found.append((stress, runs, same, pairs))
     if asked.picture:
         draw(asked.picture, asked, found)
-
-
-if __name__ == "__main__":
-    common.experiment(main)

@@ -29,10 +29,6 @@ def turned(lattice):
     return lattice.replace(states=states)
 
 
-def differing(one, other):
-    return int(np.count_nonzero(one.states != other.states))
-
-
 def draw(path, shown, growth):
     titles = "start", "before the way back", "back, all turned", "back, one not turned"
     look = dict(block=(2, 2), vmin=0, vmax=shown[0].gas.directions / 2, colorbar=False)
@@ -47,6 +43,7 @@ def draw(path, shown, growth):
         panels[-1].legend(fontsize=8, loc="upper left")
 
 
+@common.experiment
 def main():
     reader = common.Options("the four states, and the growth of a difference", common.GASES)
     reader.option("--size", common.whole(40, 2048), 256, 64, "columns and rows")
@@ -58,17 +55,14 @@ def main():
     print(f"there and back {asked.generations} generations each")
     for name, lattice in (("all particles turned", late), ("and one of them not", turned(late))):
         shown.append(lattice.reverse().run(asked.generations).reverse())
-        print(f"{name}: {differing(start, shown[-1])} cells differ from the start")
+        number = np.count_nonzero(shown[-1].states != start.states)
+        print(f"{name}: {number} cells differ from the start")
     other, sides = turned(start), 2 if start.gas.is_square else 3
     print("generations  cells that differ    most")
     growth = []
     for time in TIMES:
-        number = differing(start.run(time), other.run(time))
+        number = np.count_nonzero(start.run(time).states != other.run(time).states)
         growth.append((time, number, min(asked.size**2, 1 + sides * time * (time + 1))))
         print("{:11}{:19}{:8}".format(*growth[-1]))
     if asked.picture:
         draw(asked.picture, shown, growth)
-
-
-if __name__ == "__main__":
-    common.experiment(main)

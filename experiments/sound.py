@@ -63,6 +63,7 @@ def draw(path, mean, error, k, name):
         below.set(xlabel="generations", ylabel="measured − fit")
 
 
+@common.experiment
 def main():
     reader = common.Options("the swinging amplitude with its fit", common.GASES, seeds=(40, 4))
     reader.filling(0.05, 0.9, 0.3)
@@ -79,7 +80,3 @@ def main():
         if asked.picture and not is_diagonal:
             title = f"{asked.gas}, d = {asked.filling}, {asked.height} rows, {asked.seeds} seeds"
             draw(asked.picture, *fhpgas.mean_and_error(runs), k, title)
-
-
-if __name__ == "__main__":
-    common.experiment(main)

@@ -1,10 +1,10 @@
 #!/usr/bin/env python3
-"""The long-time tail: the viscosity grows with the logarithm of the channel's height, and t C(t) has
-a plateau.
+"""The long-time tail: the viscosity grows with the logarithm of the channel's height, and t C(t)
+has a plateau.
 
 Shear waves decay between walls as in viscosity.py. A line is fitted to measured / channel over the
-logarithm of the rows. Formula: docs/DERIVATION.md#10. C(t) is what is left of a uniform stress after
-t generations, by the pair closure, and as in response.py where its error is below a third of it."""
+logarithm of the rows. Formula: docs/DERIVATION.md#10. C(t) is what is left of a uniform stress at
+t, by the pair closure, and as in response.py where its error is below a third of it."""
 import common
 import fhpgas
 import numpy as np
@@ -49,6 +49,7 @@ def draw(path, asked, ratios, line, pairs, plateau):
         right.legend(fontsize=8)
 
 
+@common.experiment
 def main():
     reader = common.Options("the growth and the plateau", common.FLUIDS, "fhp-rest", (16, 4))
     reader.chirality()
@@ -71,7 +72,3 @@ def main():
         print(f"t C(t) of pairs at {t:3}: {t * pairs[t - 1]:.4f}  formula {4 * grown:.4f}")
     if asked.picture:
         draw(asked.picture, asked, ratios, line, pairs, 4 * grown)
-
-
-if __name__ == "__main__":
-    common.experiment(main)

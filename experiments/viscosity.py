@@ -64,6 +64,7 @@ def draw(path, waves, title):
         below.set(xlabel="k² × generations", ylabel="logarithm − line")
 
 
+@common.experiment
 def main():
     figure = "the decays on a logarithmic axis with their fits"
     reader = common.Options(figure, common.FLUIDS, seeds=(16, 4))
@@ -83,7 +84,3 @@ def main():
         waves.append((wave, runs))
     if asked.picture:
         draw(asked.picture, waves, f"{asked.gas} {asked.chirality}, {asked.seeds} seeds")
-
-
-if __name__ == "__main__":
-    common.experiment(main)
