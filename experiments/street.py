@@ -5,9 +5,9 @@ The gas flows past a disc of diameter D in a channel that is periodic after `--l
 speed is kept by turning particles. A gust to the north starts the street. In the last two thirds of
 the run are measured: the mean speed, the speed u that meets the disc (over its height, one to two D
 ahead of it), the changes of sign of the flow across in the wake (one to two D behind the disc),
-half a period apart, and the heights of the vortices. St = D / (T g u), Re = g u D / viscosity, for
-each half period with the speed during it. A free cylinder has St = 0.212 (1 - 21.2 / Re) (A.
-Roshko, NACA Report 1191, 1954) and sheds vortices from about Re = 47 on."""
+half a period apart, and the heights of the vortices. St = D / (T g u), for each half period with
+the speed during it, Re = g u D / viscosity, with pairs. A free cylinder has St = 0.212 (1 - 21.2 /
+Re) (A. Roshko, NACA Report 1191, 1954) and sheds vortices from about Re = 47 on."""
 import common
 import fhpgas
 import numpy as np
@@ -17,8 +17,7 @@ GAS, FILLING, FIRST, BLOCK = "fhp-rest", 0.18, 47, (8, 9)
 
 
 class Street:
-    """The channel, and what was measured in it over time. Places are in diameters from the middle
-    of the disc."""
+    """The channel and what is measured in it. Places are in diameters from the disc's middle."""
 
     def __init__(self, asked):
         self.radius, self.across, self.part = asked.radius, 2 * asked.radius, asked.part
@@ -44,32 +43,29 @@ class Street:
         return (x - self.middle[0]) / self.across, (y - self.middle[1]) / self.across
 
     def sampled(self, blocks):
-        """The speed that meets the disc and the flow across in the wake. Adds to the fields: the
-        speed, the squared vorticity by sign."""
+        """The speed that meets the disc, and the flow across. Adds up squared vorticity by sign."""
         self.x, self.y = self.places(*blocks.positions)
         curl = np.nan_to_num(blocks.smooth(2).vorticity)
-        by_sign = np.maximum(0, -curl) ** 2, np.maximum(0, curl) ** 2
-        self.fields = self.fields + np.array([blocks.east, *by_sign])
+        self.fields = self.fields + np.array([np.maximum(0, side * curl) ** 2 for side in (-1, 1)])
         wake = blocks.north[abs(self.y) < 0.25][:, (self.x > 1) & (self.x < 2)].mean()
         return blocks.east[abs(self.y) < 0.5][:, (self.x > -2.5) & (self.x < -1.5)].mean(), wake
 
     def crossings(self):
-        """The times at which the flow across changes its sign, on straight lines between the
-        samples."""
+        """When the flow across changes its sign, on straight lines between the samples."""
         side = self.sides - self.sides.mean()
         n = np.flatnonzero(side[:-1] * side[1:] < 0)
         return self.times[0] + self.part * (n + side[n] / (side[n] - side[n + 1]))
 
     def heights(self, behind):
-        """The mean heights, in radii, of the clockwise and the counter-clockwise vortices so far
-        behind the disc."""
+        """The heights, in radii, of the clockwise and the other vortices so far behind the disc."""
         inner, near = abs(self.y) < 1.5, abs(self.x - behind) < 0.25
-        weights = (field[inner][:, near].sum(1) for field in self.fields[1:])
+        weights = (field[inner][:, near].sum(1) for field in self.fields)
         return [2 * np.average(self.y[inner], weights=each) for each in weights]
 
 
 def report(street, times):
-    halves, scale = np.diff(times), street.across / theory.viscosity(GAS, FILLING)
+    viscosity = theory.pair_viscosity(GAS, FILLING, 60, size=120)[-1]
+    halves, scale = np.diff(times), street.across / viscosity
     is_fast = street.incoming.mean() * theory.galilean_factor(GAS, FILLING) * scale >= FIRST
     is_street = is_fast and len(halves) > 2
     if is_street:
@@ -110,26 +106,19 @@ def heights(street):
 def draw(path, street, times):
     tall = 1 + 6.5 * street.size[1] / street.size[0]  # inches, for cells of the true shape
     most = 3 * street.incoming.mean() / street.across
-    with common.axes(path, 3, 1, (9, (tall + 4) / 3), height_ratios=(tall, 2, 2)) as panels:
-        field, wake, ahead = panels
+    with common.axes(path, 2, 1, (9, tall / 2 + 1), height_ratios=(tall, 2)) as (field, wake):
         street.last.plot("vorticity", field, block=BLOCK, smooth=2, vmin=-most, vmax=most)
         title = f"{GAS}, d = {FILLING}, disc of {street.across} cells"
         field.set_title(f"{title}, generation {street.last.generation}")
         wake.plot(street.times, street.sides, "C0", lw=1)
         wake.plot(times, np.full(len(times), street.sides.mean()), "C1.", label="changes of sign")
         wake.set(xlabel="generations", ylabel="flow across\nin the wake")
-        profile = street.fields[0][:, (street.x > -2.5) & (street.x < -1.5)].mean(1)
-        label = "1 to 2 D ahead of the disc"
-        ahead.plot(street.y, profile / len(street.times), "C0", lw=1, label=label)
-        ahead.axhline(street.speeds.mean(), color="0.5", lw=1, label="mean of the channel")
-        ahead.axvspan(-0.5, 0.5, color="0.9")
-        ahead.set(xlabel="height from the disc's middle, D", ylabel="speed eastwards")
-        wake.legend(fontsize=8), ahead.legend(fontsize=8)
+        wake.legend(fontsize=8)
 
 
+@common.experiment
 def main():
-    figure = "the vorticity at the end, the flow across in the wake, and the profile that meets"
-    reader = common.Options(f"{figure} the disc")
+    reader = common.Options("the vorticity at the end, and the flow across in the wake")
     reader.option("--radius", common.whole(8, 400), 80, 16, "of the disc, in cells")
     reader.option("--height", common.number(2, 50), 5.5, 5.5, "of the channel, in diameters")
     reader.option("--length", common.number(6, 100), 20, 20, "of the channel, in diameters")
@@ -153,7 +142,3 @@ def main():
         draw(asked.picture, street, times)
     if asked.scene:
         street.last.save(asked.scene)
-
-
-if __name__ == "__main__":
-    common.experiment(main)
