@@ -223,6 +223,15 @@ def grows():
     sure(abs(float(found) - float(wanted)) <= ERRORS * float(error), output)
 
 
+def drags():
+    """The force of a flow without inertia is that of the formula but for slip, and inertia adds to it."""
+    output = printed("drag.py --small")
+    slow, error, wanted = map(float, LINE.findall(output)[0][1:])
+    sure(abs(slow / wanted - 0.95) < 0.1 and error < 0.1 * wanted, output)
+    ((reynolds, drag),) = re.findall(r"Reynolds (\S+): C +measured +(\S+)", output)[-1:]
+    sure(float(drag) * float(reynolds) / 2 > 1.1 * wanted, output)
+
+
 def keeps():
     output = printed("invariants.py --small")
     row = re.compile(r"^ +\d+ +(\S+) +(\S+)  (\(.*\))$", re.M)
@@ -309,7 +318,7 @@ SOUND = "speed of sound", "damping D"
 NOISE = "stress after 1", "viscosity", *SOUND
 CASES = [
     *((check, gas) for check in (collides, returns) for gas in GASES),
-    *((check,) for check in (keeps, street, finds_periods, takes_arrays, grows)),
+    *((check,) for check in (keeps, street, finds_periods, takes_arrays, grows, drags)),
     *((permutes, gas) for gas in GASES),
     (responds, "--filling 0.1 --triples 0.5 --until 60"),
     (responds, "--filling 0.4 --gas fhp-rest --chirality left"),
