@@ -424,7 +424,7 @@ const folder = mkdtempSync("/tmp/page-"), built = `${folder}/page.html`;
 const done = spawnSync("node", [`${root}page/build.mjs`, built], { encoding: "utf8" }), old = readFileSync(`${root}page/fhpgas.html`, "utf8");
 if (done.stderr.includes("this is not ")) console.log(`page/fhpgas.html is not compared with what its sources make: ${done.stderr}`);
 else check("page/fhpgas.html is what its sources make: run make page", done.status === 0 && old === readFileSync(built, "utf8"), done.stderr);
-check("page/fhpgas.html has at most 190 KB", Buffer.byteLength(old) <= 190_000, Buffer.byteLength(old));
+check("page/fhpgas.html has at most 175 KB", Buffer.byteLength(old) <= 175_000, Buffer.byteLength(old));
 if (done.stderr.includes("stays as it was")) console.log(`its kernel was not built again: ${done.stderr}`);
 rmSync(folder, { recursive: true });
 const types = spawnSync("tsc", ["-p", `${root}page`], { encoding: "utf8" });
