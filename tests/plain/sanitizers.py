@@ -58,7 +58,8 @@ class Build:
     def cargo(self, *words: str) -> subprocess.CompletedProcess[str]:
         offline = ["--offline"] if (self.folder / ".cargo").exists() else []
         more = ["--quiet", f"--target={TARGET}", *offline]
-        return run("cargo", *words, *more, cwd=self.folder, env=self.environment)
+        words = words[0], *more, *words[1:]
+        return run("cargo", *words, cwd=self.folder, env=self.environment)
 
     def program(self, *profile: str) -> pathlib.Path:
         built = self.cargo("build", "--package=fhpgas", *profile)
@@ -143,7 +144,8 @@ class Sanitized(unittest.TestCase):
         self.run_plans(build)
         with self.subTest("the line's tests"):
             crates = "--package=tests_belt", "--package=tests_pipe"
-            done = build.cargo("test", *crates, "--lib", "--no-fail-fast")
+            one_thread = "--skip=two_to_the_26"  # a loop of minutes, in which nothing can race
+            done = build.cargo("test", *crates, "--lib", "--no-fail-fast", "--", one_thread)
             self.assertEqual(done.stdout.count("test result: ok."), 2, done.stderr)
             self.assertEqual(races(done.stderr), [])
         self.assertEqual(self.ring(build), [])
