@@ -487,9 +487,8 @@ def message(room):
     )
     serial = page.now("shown.serial")
     page.choose("change", text="i"), page.wait(f"shown.serial > {serial}")
-    link = page.wait(
-        "location.hash.includes('&text=') && head.generation === 3000 && location.hash"
-    )
+    is_of_one_sign = "/&text=.{3}$/.test(location.hash)"  # two letters are a sum
+    link = page.wait(f"{is_of_one_sign} && head.generation === 3000 && location.hash")
     check("its address does not show the text", "text=i" not in link.lower(), link)
     page.click("send"), page.wait("notes.length > 1")
     check("a button copies the link", "link" in page.now("notes.at(-1)"), page.now("notes"))
