@@ -22,7 +22,7 @@ export function take({ frames, serial, asked: number, undoes, isRunning, strokes
     if (frame.walls) panes[k].walls = wallsOf(frame, frame.walls);
     panes[k].tracers.carry(frame);
     if (frame.notes.length) marks.touched = null;
-    for (const text of frame.notes) note(text, "", 9);
+    if (number === asked.starts) for (const text of frame.notes) note(text, "", 9); // else of cells that are going
   });
   if (before && direction > before.direction) turnedForwards(frames[0]);
   if (isMoved) sample(frames[0]);
