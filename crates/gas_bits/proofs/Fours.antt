@@ -1,7 +1,7 @@
 -- One bit of a lane of four words that were shifted or joined.
-use Rattle.std.proofs.Common.{◌≡◌, ℕ, zero, suc, [], ◌∷◌, take, drop, ◌+◌, ◌-◌, ◌*◌, ◌/◌, ◌%◌, ◌^◌, ◌<◌, ◌≤◌, ◌&&◌, ◌==◌, if◌then◌else◌, List, length, get_or, map, not, replicate, refl, sym, ap, ap₂, ◌∙◌, arith, bit_and, bit_or}
+use Rattle.std.proofs.Common.{◌≡◌, ℕ, zero, suc, take, drop, ◌+◌, ◌-◌, ◌*◌, ◌/◌, ◌%◌, ◌^◌, ◌<◌, ◌≤◌, ◌&&◌, ◌==◌, if◌then◌else◌, List, length, get_or, map, not, replicate, refl, sym, ap, ap₂, ◌∙◌, arith, bit_and, bit_or}
 use Rattle.std.proofs.lemmas.Bool.Decides.{nat_tests}
-use Rattle.std.proofs.lemmas.List.{get_or_past, get_or-map, length-map}
+use Rattle.std.proofs.lemmas.List.{get_or-map, length-map}
 use Rattle.std.proofs.lemmas.Simd.{get_or-zip2, length-zip2, get_or-replicate, get_or-chunk}
 use lib.Lanes.{zip2, chunk}
 use Rattle.gas_geom.specs.Gas.{holds}
@@ -23,11 +23,6 @@ four_read xs j l within h =
     get_or-chunk 0 4 (take (j + 4 - j) (drop j xs)) l 0 h
     ∙ ap (λ k. get_or (take (j + 4 - j) (drop j xs)) k 0) (let e : 0 + l ≡ l = omega arith in e)
     ∙ part_get xs j (j + 4 - j) l (omega (arith, h)) (omega (arith, within))
-
-pub short_read : (xs : List ℕ) (a b c : ℕ) → length xs < 4 → a ≡ get_or xs 0 0 → b ≡ get_or xs 1 0 → c ≡ get_or xs 2 0
-    → (l : ℕ) → l < 4 → get_or (a ∷ b ∷ c ∷ 0 ∷ []) l 0 ≡ get_or xs l 0
-short_read xs a b c short ea eb ec =
-    each_lane (λ l. get_or (a ∷ b ∷ c ∷ 0 ∷ []) l 0 ≡ get_or xs l 0) ea eb ec (sym (get_or_past xs 3 0 (omega (arith, short))))
 
 -- ---- one bit of them
 -- lane l of an operation on four lanes

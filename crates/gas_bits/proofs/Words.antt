@@ -1,5 +1,5 @@
 -- What the words of a plane say of its cells, before and after writes of words.
-use Rattle.std.proofs.Common.{◌≡◌, ◌≢◌, ℕ, ◌+◌, ◌*◌, ◌/◌, ◌%◌, ◌<◌, ◌≤◌, Bool, false, ◌&&◌, ◌||◌, if◌then◌else◌, List, length, get_or, set, length-set, replicate, refl, sym, ap, ◌∙◌, arith, bit_or}
+use Rattle.std.proofs.Common.{◌≡◌, ℕ, ◌+◌, ◌*◌, ◌/◌, ◌%◌, ◌<◌, ◌≤◌, Bool, false, ◌&&◌, ◌||◌, if◌then◌else◌, List, length, get_or, set, length-set, replicate, refl, sym, ap, ◌∙◌, arith, bit_or}
 use Rattle.std.proofs.lemmas.Nat.Bits.{bit_at-lt, bit_at-zero, same_from_bits}
 use Rattle.std.specs.Prelude.{◌==◌, nat_lt}
 use Rattle.std.specs.List.{All}
@@ -42,12 +42,6 @@ bit-set words j v x within = grind (arith, nat_tests, places, get_or-set_at)
 
 -- the bits of words after some of them were written
 pub ruleset word_writes = (nat_tests, bit-set, length-set)
-
-pub bit-set_here : (words : List ℕ) (j v x : ℕ) → j < length words → x / 64 ≡ j → bit (set words j v) x ≡ holds v (x % 64)
-bit-set_here words j v x within e = grind (arith, nat_tests, bit-set)
-
-pub bit-set_there : (words : List ℕ) (j v x : ℕ) → j < length words → x / 64 ≢ j → bit (set words j v) x ≡ bit words x
-bit-set_there words j v x within ne = grind (arith, nat_tests, bit-set)
 
 -- what holds before the width
 pub cut-where : (x width : ℕ) (a b : Bool) → (x < width → a ≡ b) → (nat_lt x width && a) ≡ (nat_lt x width && b)

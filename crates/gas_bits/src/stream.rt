@@ -5,21 +5,13 @@ ghost use Rattle.gas_geom.specs.declared.moves.Move.TheVariants.{Back, Stay, On}
 ghost use Rattle.gas_geom.specs.Moves.{column_after};
 ghost use Rattle.gas_geom.specs.Gas.{holds};
 ghost use Rattle.gas_bits.specs.Words.{words_in, bit};
-ghost use Rattle.gas_bits.specs.Shift.{AreStreamed};
+ghost use Rattle.gas_bits.specs.Shift.{AreStreamed, IsPlace};
 ghost use Rattle.gas_bits.specs.Inner.Streamed.{AreBeside, AreFourBeside};
 
 use crate::plane::Incoming;
 use crate::word::{from_east, with_last_bit_on_top, words_for};
 use gas_geom::moves::Move;
 use std::simd::prelude::*;
-
-// Word `j` of a row, or 0 past its end.
-#[inline(always)]
-fn word_or_zero(words: &[u64], j: usize) -> u64
-    ensures { result ≡ slice_index words.now j }
-{
-    if j < words.len() { words[j] } else { 0 }
-}
 
 // The words of a row of fewer than four words, with zeros past its end. Not inlined, since few rows are
 // as short.
@@ -28,12 +20,9 @@ fn few_at(words: &[u64]) -> u64x4
     requires { length words.now < 4 }
     ensures { (l : ℕ) → l < 4 → slice_index result l ≡ slice_index words.now l }
 {
-    u64x4::from_array([
-        word_or_zero(words, 0),
-        word_or_zero(words, 1),
-        word_or_zero(words, 2),
-        0,
-    ])
+    let mut four = [0; 4];
+    four[..words.len()].copy_from_slice(words);
+    u64x4::from_array(four)
 }
 
 /// Words `j` to `j + 3` of a row of `n` words, with zeros past its end. Only a row of fewer than four
@@ -93,21 +82,6 @@ fn four_before(words: &[u64], width: u32, j: usize, first: bool) -> u64x4
     u64x4::from_array([last, one, two, three])
 }
 
-// The western neighbours of the cells of words `j` to `j + 3`.
-#[inline(always)]
-fn west_of(words: &[u64], width: u32, j: usize, first: bool) -> u64x4
-    requires some_cells { 1 ≤ width }
-    requires few_cells { width ≤ 65536 }
-    requires long { length words.now ≡ words_in width }
-    requires within { j + 4 ≤ max 4 (words_in width) }
-    requires first { IsTrue first → j ≡ 0 }
-    requires after_first { IsTrue (not first) → 1 ≤ j }
-    ensures { AreFourBeside words.now width Back j result }
-{
-    let here = four_at(words, words_for(width), j);
-    four_from_west(four_before(words, width, j, first), here)
-}
-
 // The eastern neighbours of the cells of words `j` to `j + 3`.
 #[inline(always)]
 fn east_of(words: &[u64], width: u32, j: usize, last: bool) -> u64x4
@@ -147,16 +121,13 @@ fn four_beside(along: Move, words: &[u64], width: u32, j: usize, first: bool, la
     requires some_cells { 1 ≤ width }
     requires few_cells { width ≤ 65536 }
     requires long { length words.now ≡ words_in width }
-    requires within { j + 4 ≤ max 4 (words_in width) }
-    requires first { IsTrue first → j ≡ 0 }
-    requires after_first { IsTrue (not first) → 1 ≤ j }
-    requires last { IsTrue last → words_in width ≤ j + 4 }
-    requires before_last { IsTrue (not last) → j + 4 < words_in width }
+    requires place { IsPlace width j first last }
     ensures { AreFourBeside words.now width along j result }
 {
+    let here = four_at(words, words_for(width), j);
     match along {
-        Move::Back => west_of(words, width, j, first),
-        Move::Stay => four_at(words, words_for(width), j),
+        Move::Back => four_from_west(four_before(words, width, j, first), here),
+        Move::Stay => here,
         Move::On => east_of(words, width, j, last),
     }
 }
@@ -183,11 +154,7 @@ pub fn stream_four<'a>(
     first: bool,
     last: bool,
 ) -> u64x4
-    requires within { j + 4 ≤ max 4 (words_in incoming.now.width) }
-    requires first { IsTrue first → j ≡ 0 }
-    requires after_first { IsTrue (not first) → 1 ≤ j }
-    requires last { IsTrue last → words_in incoming.now.width ≤ j + 4 }
-    requires before_last { IsTrue (not last) → j + 4 < words_in incoming.now.width }
+    requires place { IsPlace incoming.now.width j first last }
     ensures streamed { AreStreamed incoming.now along j result }
 {
     let arriving = four_beside(along, incoming.plane, incoming.width, j, first, last);

@@ -109,11 +109,7 @@ impl<'a, 'b> Channel<'a, 'b> {
             y,
             all_fluid,
         };
-        if collides {
-            neighbourhood.stream_and_collide::<G>(bits, out);
-        } else {
-            neighbourhood.stream::<G>(out);
-        }
+        neighbourhood.advance::<G>(bits, collides, out);
     }
 
     // Writes row `y` of the lattice after a collision by these bits. If `streams`, the lattice is

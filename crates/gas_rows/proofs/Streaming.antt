@@ -113,12 +113,6 @@ beside-length n Back a b c ea eb ec = ea
 beside-length n Stay a b c ea eb ec = eb
 beside-length n On a b c ea eb ec = ec
 
-pub beside-clear : (m : Move) (a b c : List ℕ) → ((x : ℕ) → bit a x ≡ false) → ((x : ℕ) → bit b x ≡ false) → ((x : ℕ) → bit c x ≡ false)
-    → (x : ℕ) → bit (row_beside m a b c) x ≡ false
-beside-clear Back a b c ha hb hc x = ha x
-beside-clear Stay a b c ha hb hc x = hb x
-beside-clear On a b c ha hb hc x = hc x
-
 pub beside-solid : (dirs : ℕ) (c : ChannelModel) (at : ℕ → ℕ → ℕ) (n : Neighbourhood) (m : Move) (x : ℕ) → AreWordsAbout dirs c at n → x < c.width
     → bit (row_beside m n.solid_above.now n.solid_middle.now n.solid_below.now) x ≡ is_solid_beside c x n.y m
 beside-solid dirs c at n Back x about lt = about.solid_above x lt

@@ -1,6 +1,8 @@
 -- The rows about a row, as streaming reads them.
-use Rattle.std.specs.Prelude.{◌≡◌, ℕ, ◌+◌, ◌-◌, ◌*◌, ◌<◌, false, List, length, slice_index}
+use Rattle.std.specs.Prelude.{◌≡◌, ℕ, ◌+◌, ◌-◌, ◌*◌, ◌<◌, Bool, false, if◌then◌else◌, List, length, slice_index}
+use Rattle.gas_geom.specs.Gas.{Rules}
 use Rattle.gas_geom.specs.Channel.{ChannelModel, is_solid}
+use Rattle.gas_geom.specs.Lattice.{collided, streamed}
 use Rattle.gas_geom.specs.declared.moves.Move.TheVariants.{Back, On}
 use Rattle.gas_bits.specs.Words.{words_in, bit}
 use Rattle.gas_rows.specs.Beside.{is_solid_beside}
@@ -30,3 +32,7 @@ pub record AreWordsAbout (dirs : ℕ) (channel : ChannelModel) (at : ℕ → ℕ
   pub solid_above : (x : ℕ) → x < channel.width → bit n.solid_above.now x ≡ is_solid_beside channel x n.y Back
   pub solid_middle : (x : ℕ) → x < channel.width → bit n.solid_middle.now x ≡ is_solid channel x n.y
   pub solid_below : (x : ℕ) → x < channel.width → bit n.solid_below.now x ≡ is_solid_beside channel x n.y On
+
+-- cell (x, y) of the lattice `at` after streaming and, if it collides, a collision by these bits
+abbrev pub advanced : Rules → ChannelModel → Bool → (ℕ → ℕ → Bool) → (ℕ → ℕ → ℕ) → ℕ → ℕ → ℕ
+advanced gas channel collides chi at x y = if collides then collided gas channel chi (streamed gas channel at) x y else streamed gas channel at x y

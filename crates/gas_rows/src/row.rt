@@ -1,11 +1,11 @@
 //! Rows: a state for each cell, held as bit planes.
 ghost use Rattle.std.specs.Prelude.{◌≡◌, ◌≢◌, ◌⊎◌, ◌+◌, ◌*◌, ◌/◌, ◌<◌, ◌≤◌, ◌^◌, ℕ, List, length, replicate, slice_index, slice_index_or, slice_set, false, IsTrue, sum_by, if◌then◌else◌, vec_len, IfOk};
 ghost use Rattle.gas_geom.specs.Gas.{holds, particles};
-ghost use Rattle.gas_geom.specs.Channel.{ChannelModel, is_solid};
-ghost use Rattle.gas_geom.specs.Lattice.{row_of, streamed};
+ghost use Rattle.gas_geom.specs.Channel.{ChannelModel};
+ghost use Rattle.gas_geom.specs.Lattice.{row_of};
 ghost use Rattle.gas_bits.specs.Words.{words_in};
 ghost use Rattle.gas_rows.specs.Planes.{AreWordsOf, cells_of};
-ghost use Rattle.gas_rows.specs.Streaming.{AreRowsLong, AreWordsAbout};
+ghost use Rattle.gas_rows.specs.Streaming.{AreRowsLong, AreWordsAbout, advanced};
 
 use crate::collision::{Collision, directions};
 use crate::mask::Mask;
@@ -223,34 +223,20 @@ impl<G: Gas> Row<G> {
         }
     }
 
-    /// Streams into this row. The neighbourhood has its width.
+    /// Streams into this row and, if it `collides`, collides it by these random bits. The neighbourhood and
+    /// the mask have its width.
     #[inline(always)]
-    pub fn stream<'a>(&mut self, neighbourhood: &Neighbourhood<'a>)
-        requires wide { neighbourhood.now.width ≡ length self.old }
-        requires rows { AreRowsLong G.rules.dirs neighbourhood.now }
-        ensures wide { length self.new ≡ length self.old }
-        ensures streamed { (channel : ChannelModel) (at : ℕ → ℕ → ℕ) →
-            AreWordsAbout G.rules.dirs channel at neighbourhood.now →
-            self.new ≡ row_of channel.width (λ x. streamed G.rules channel at x neighbourhood.now.y) }
-    {
-        neighbourhood.stream::<G>(&mut self.words);
-    }
-
-    /// Streams into this row, and collides it by these random bits. The neighbourhood and the mask have
-    /// its width.
-    #[inline(always)]
-    pub fn stream_and_collide<'a>(&mut self, neighbourhood: &Neighbourhood<'a>, chi: &Mask)
+    pub fn advance<'a>(&mut self, neighbourhood: &Neighbourhood<'a>, chi: &Mask, collides: bool)
         requires wide { neighbourhood.now.width ≡ length self.old }
         requires rows { AreRowsLong G.rules.dirs neighbourhood.now }
         requires chi_wide { length chi.now ≡ length self.old }
         ensures wide { length self.new ≡ length self.old }
-        ensures collided { (channel : ChannelModel) (at : ℕ → ℕ → ℕ) →
+        ensures advanced { (channel : ChannelModel) (at : ℕ → ℕ → ℕ) →
             AreWordsAbout G.rules.dirs channel at neighbourhood.now →
-            self.new ≡ row_of channel.width (λ x. if is_solid channel x neighbourhood.now.y then 0
-            else G.rules.collide (streamed G.rules channel at x neighbourhood.now.y)
-            (slice_index_or chi.now x false)) }
+            self.new ≡ row_of channel.width (λ x. advanced G.rules channel collides
+            (λ x y. slice_index_or chi.now x false) at x neighbourhood.now.y) }
     {
-        neighbourhood.stream_and_collide::<G>(chi.words(), &mut self.words);
+        neighbourhood.advance::<G>(chi.words(), collides, &mut self.words);
     }
 }
 

@@ -1,8 +1,9 @@
 //! The streaming of a row, wherever walls and solid cells are: every particle moves along its link,
 //! or is sent back if the link ends at a solid cell or the wall.
-ghost use Rattle.std.specs.Prelude.{◌≡◌, ◌+◌, ◌-◌, ◌*◌, ◌/◌, ◌%◌, ◌<◌, ◌≤◌, ◌==◌, ℕ, false, if◌then◌else◌, max, take, drop, not, IsTrue, length, slice_index};
+ghost use Rattle.std.specs.Prelude.{◌≡◌, ◌+◌, ◌-◌, ◌*◌, ◌/◌, ◌%◌, ◌<◌, ◌≤◌, ◌==◌, ℕ, false, take, drop, IsTrue, length, slice_index};
 ghost use Rattle.gas_geom.specs.declared.size.TheConstants.{MOST_SIDE};
 ghost use Rattle.gas_bits.specs.Words.{words_in, bit};
+ghost use Rattle.gas_bits.specs.Shift.{IsPlace};
 ghost use Rattle.gas_rows.specs.Inner.Beside.{row_beside};
 
 use crate::collision::directions;
@@ -92,11 +93,7 @@ impl<'a, 'b> Kernel<'a, 'b> {
     #[inline(always)]
     fn stream_four<G: Gas>(&self, i: u32, j: usize, first: bool, last: bool) -> u64x4
         requires rows { AreRowsLong G.rules.dirs self.now.rows }
-        requires within { j + 4 ≤ max 4 (words_in self.now.rows.width) }
-        requires first { IsTrue first → j ≡ 0 }
-        requires after_first { IsTrue (not first) → 1 ≤ j }
-        requires last { IsTrue last → words_in self.now.rows.width ≤ j + 4 }
-        requires before_last { IsTrue (not last) → j + 4 < words_in self.now.rows.width }
+        requires place { IsPlace self.now.rows.width j first last }
         ensures { (channel : ChannelModel) (at : ℕ → ℕ → ℕ) →
             AreWordsAbout G.rules.dirs channel at self.now.rows → i < G.rules.dirs → (c : ℕ) → c < 256 →
             64 * j + c < channel.width → holds (slice_index result (c / 64)) (c % 64)
@@ -129,11 +126,7 @@ impl<'a, 'b> Kernel<'a, 'b> {
     #[inline(always)]
     fn stream_planes<G: Gas>(&self, j: usize, first: bool, last: bool) -> [u64x4; 8]
         requires rows { AreRowsLong G.rules.dirs self.now.rows }
-        requires within { j + 4 ≤ max 4 (words_in self.now.rows.width) }
-        requires first { IsTrue first → j ≡ 0 }
-        requires after_first { IsTrue (not first) → 1 ≤ j }
-        requires last { IsTrue last → words_in self.now.rows.width ≤ j + 4 }
-        requires before_last { IsTrue (not last) → j + 4 < words_in self.now.rows.width }
+        requires place { IsPlace self.now.rows.width j first last }
         ensures { (channel : ChannelModel) (at : ℕ → ℕ → ℕ) →
             AreWordsAbout G.rules.dirs channel at self.now.rows → (i c : ℕ) → i < G.rules.dirs → c < 256 →
             64 * j + c < channel.width → four_has result i c
@@ -157,11 +150,7 @@ impl<'a, 'b> Kernel<'a, 'b> {
     #[inline(always)]
     fn write_four<G: Gas>(&self, j: usize, first: bool, last: bool, collides: bool, out: &mut [u64])
         requires rows { AreRowsLong G.rules.dirs self.now.rows }
-        requires within { j + 4 ≤ max 4 (words_in self.now.rows.width) }
-        requires first { IsTrue first → j ≡ 0 }
-        requires after_first { IsTrue (not first) → 1 ≤ j }
-        requires last { IsTrue last → words_in self.now.rows.width ≤ j + 4 }
-        requires before_last { IsTrue (not last) → j + 4 < words_in self.now.rows.width }
+        requires place { IsPlace self.now.rows.width j first last }
         requires collides { collides ≡ self.now.collides }
         requires long { length out.old ≡ G.rules.dirs * words_in self.now.rows.width }
         ensures long { length out.new ≡ length out.old }
@@ -248,18 +237,40 @@ impl<'a, 'b> Kernel<'a, 'b> {
     {
         let words_each = words_for(self.rows.width);
         for k in 0..words_each.div_ceil(4) {
-            let j = (4 * k).min(words_each - 4);
-            self.write_four::<G>(j, k == 0, words_each <= 4 * k + 4, self.collides, out);
+            let first = k == 0;
+            let last = words_each <= 4 * k + 4;
+            if first || last {
+                let j = (4 * k).min(words_each - 4);
+                self.write_four::<G>(j, first, last, self.collides, out);
+            } else {
+                self.write_four::<G>(4 * k, false, false, self.collides, out);
+            }
+        }
+    }
+
+    // Writes all words of such a row.
+    #[inline(always)]
+    fn write_many<G: Gas>(&self, out: &mut [u64])
+        requires rows { AreRowsLong G.rules.dirs self.now.rows }
+        requires many { 4 ≤ words_in self.now.rows.width }
+        requires long { length out.old ≡ G.rules.dirs * words_in self.now.rows.width }
+        ensures long { length out.new ≡ length out.old }
+        ensures advanced { (channel : ChannelModel) (at : ℕ → ℕ → ℕ) →
+            AreWordsAbout G.rules.dirs channel at self.now.rows →
+            AreAdvanced G.rules channel at self.now 0 (words_in self.now.rows.width) out.old out.new }
+    {
+        if self.all_fluid {
+            self.write_row::<G>(out);
+        } else {
+            self.write_row_beside_solid::<G>(out);
         }
     }
 }
 
 impl<'a> Neighbourhood<'a> {
-    ghost use Rattle.gas_geom.specs.Channel.{ChannelModel, is_solid};
-    ghost use Rattle.gas_geom.specs.Lattice.{streamed};
+    ghost use Rattle.gas_geom.specs.Channel.{ChannelModel};
     ghost use Rattle.gas_bits.specs.Planes.{has, state};
-    ghost use Rattle.gas_rows.specs.Streaming.{AreWordsAbout, AreRowsLong};
-    ghost use Rattle.gas_rows.specs.Inner.Streaming.{advanced_state};
+    ghost use Rattle.gas_rows.specs.Streaming.{AreWordsAbout, AreRowsLong, advanced};
 
     // What is the same for all words. `odd` is the row's parity.
     #[inline(always)]
@@ -286,9 +297,10 @@ impl<'a> Neighbourhood<'a> {
         }
     }
 
-    // Writes the words of the row after streaming and the collision that follows, if one does.
+    /// Writes the words of the row after streaming and, if it `collides`, the collision that follows, by
+    /// these random bits. Bits past the width are 0.
     #[inline(never)]
-    fn advance<G: Gas>(&self, chi: &[u64], collides: bool, out: &mut [u64])
+    pub fn advance<G: Gas>(&self, chi: &[u64], collides: bool, out: &mut [u64])
         requires rows { AreRowsLong G.rules.dirs self.now }
         requires chi_long { IsTrue collides → length chi.now ≡ words_in self.now.width }
         requires long { length out.old ≡ G.rules.dirs * words_in self.now.width }
@@ -299,7 +311,7 @@ impl<'a> Neighbourhood<'a> {
         ensures advanced { (channel : ChannelModel) (at : ℕ → ℕ → ℕ) →
             AreWordsAbout G.rules.dirs channel at self.now → (x : ℕ) → x < channel.width →
             state out.new (words_in self.now.width) G.rules.dirs x
-            ≡ advanced_state G.rules collides (streamed G.rules channel at x self.now.y) (bit chi.now x) }
+            ≡ advanced G.rules channel collides (λ x y. bit chi.now x) at x self.now.y }
     {
         // A copy, so that a compiler knows that no store through `out` changes it.
         let rows = *self;
@@ -307,51 +319,13 @@ impl<'a> Neighbourhood<'a> {
         if words_for(rows.width) < 4 {
             rows.kernel(chi, collides, odd, false)
                 .write_four::<G>(0, true, true, collides, out);
-        } else if !rows.all_fluid {
-            rows.kernel(chi, collides, odd, false)
-                .write_row_beside_solid::<G>(out);
         } else if odd {
-            rows.kernel(chi, collides, true, true).write_row::<G>(out);
+            rows.kernel(chi, collides, true, rows.all_fluid)
+                .write_many::<G>(out);
         } else {
-            rows.kernel(chi, collides, false, true).write_row::<G>(out);
+            rows.kernel(chi, collides, false, rows.all_fluid)
+                .write_many::<G>(out);
         }
         clear_planes_past(out, directions::<G>(), self.width);
-    }
-
-    /// Writes the words of the row after streaming. Bits past the width are 0.
-    #[inline(always)]
-    pub fn stream<G: Gas>(&self, out: &mut [u64])
-        requires rows { AreRowsLong G.rules.dirs self.now }
-        requires long { length out.old ≡ G.rules.dirs * words_in self.now.width }
-        ensures long { length out.new ≡ length out.old }
-        ensures clear { (i x : ℕ) → i < G.rules.dirs → self.now.width ≤ x →
-            x < 64 * words_in self.now.width →
-            has out.new (words_in self.now.width) i x ≡ false }
-        ensures streamed { (channel : ChannelModel) (at : ℕ → ℕ → ℕ) →
-            AreWordsAbout G.rules.dirs channel at self.now → (x : ℕ) → x < channel.width →
-            state out.new (words_in self.now.width) G.rules.dirs x
-            ≡ streamed G.rules channel at x self.now.y }
-    {
-        self.advance::<G>(&[], false, out);
-    }
-
-    /// Writes the words of the row after streaming and the collision that follows, by these random
-    /// bits. Bits past the width are 0.
-    #[inline(always)]
-    pub fn stream_and_collide<G: Gas>(&self, chi: &[u64], out: &mut [u64])
-        requires rows { AreRowsLong G.rules.dirs self.now }
-        requires chi_long { length chi.now ≡ words_in self.now.width }
-        requires long { length out.old ≡ G.rules.dirs * words_in self.now.width }
-        ensures long { length out.new ≡ length out.old }
-        ensures clear { (i x : ℕ) → i < G.rules.dirs → self.now.width ≤ x →
-            x < 64 * words_in self.now.width →
-            has out.new (words_in self.now.width) i x ≡ false }
-        ensures collided { (channel : ChannelModel) (at : ℕ → ℕ → ℕ) →
-            AreWordsAbout G.rules.dirs channel at self.now → (x : ℕ) → x < channel.width →
-            state out.new (words_in self.now.width) G.rules.dirs x
-            ≡ (if is_solid channel x self.now.y then 0
-            else G.rules.collide (streamed G.rules channel at x self.now.y) (bit chi.now x)) }
-    {
-        self.advance::<G>(chi, true, out);
     }
 }

@@ -1,6 +1,6 @@
 -- What one more row, and the flush, bring to a stage that computes. The rows that it holds are the last two of those fed,
 -- collided; with the next row they are the rows about the last but one, so streaming gives that row of the next lattice.
-use Rattle.std.proofs.Common.{◌≡◌, ℕ, zero, suc, ◌+◌, ◌-◌, ◌<◌, ◌≤◌, Bool, false, if◌then◌else◌, Option, Some, None, IsSome, option_map, List, [], ◌∷◌, ◌++◌, take, length, get_or, ap, ◌∙◌, sym, refl, subst, arith, eq-eqb}
+use Rattle.std.proofs.Common.{◌≡◌, ℕ, zero, suc, ◌+◌, ◌-◌, ◌<◌, ◌≤◌, Bool, false, if◌then◌else◌, Option, Some, None, IsSome, is_some, option_map, List, [], ◌∷◌, ◌++◌, take, length, get_or, ap, ◌∙◌, sym, refl, subst, arith, eq-eqb}
 use Rattle.std.specs.Option.{option_to_list}
 use Rattle.std.proofs.lemmas.Bool.{false≢true}
 use Rattle.std.proofs.lemmas.List.{length_push, length-take}
@@ -10,10 +10,10 @@ use Rattle.gas_geom.specs.Channel.{ChannelModel, is_solid}
 use Rattle.gas_geom.specs.Lattice.{row_of, streamed, next}
 use Rattle.gas_rows.specs.Chirality.{chirality_bit}
 use Rattle.gas_rows.specs.declared.chirality.Chirality.{Chirality}
-use Rattle.gas_rows.specs.Streaming.{IsRowAt, AreRowsAbout}
+use Rattle.gas_rows.specs.Streaming.{IsRowAt, AreRowsAbout, advanced}
 use Rattle.gas_stage.specs.declared.stage.Mode.{Mode}
 use Rattle.gas_stage.specs.declared.stage.Mode.TheVariants.{Closed, HandsOn, Computes}
-use Rattle.gas_stage.specs.Inner.Passes.{AreBitsOf, open_pass, collided_with, kept, Returned}
+use Rattle.gas_stage.specs.Inner.Passes.{AreBitsOf, open_pass, kept, Returned}
 use Rattle.gas_stage.specs.Stage.{StageModel, MayHaveBeenFed, given, owed}
 use Rattle.gas_rows.proofs.Rows.{row_of-same}
 use Rattle.gas_stage.proofs.Local.{collided_at, cell-push_at, collided_of, collided_of-append, next_row, take-next-push, next-all, length-next}
@@ -134,17 +134,24 @@ module _ (gas : Rules) (s : StageModel) (g : ℕ) (q : List (List ℕ)) (fits : 
 
 -- with the random bits of a step a row is as a stage keeps it that computes this step
 bits-kept : (gas : Rules) (c : ChannelModel) (h : Chirality) (g width y : ℕ) (bits : List Bool) (row : List ℕ) → AreBitsOf gas h width g y bits → width ≡ c.width →
-    collided_with gas c (Some bits) y row ≡ kept gas c h (Some g) y row
+    row_of c.width (λ x. if is_solid c x y then 0 else gas.collide (get_or row x 0) (get_or bits x false)) ≡ kept gas c h (Some g) y row
 bits-kept gas c h g width y bits row are wide =
     row_of-same 0 c.width _ _ (λ x lt.
     ap (λ set. if is_solid c x y then 0 else set)
     (are (get_or row x 0) x (omega (arith, lt, wide)) ∙ ap (λ w. gas.collide (get_or row x 0) (chirality_bit h w g x y)) wide))
 
-pub collided_with-kept : (gas : Rules) (c : ChannelModel) (h : Chirality) (behind : Option ℕ) (width y : ℕ) (bits : List Bool) (row : List ℕ) →
-    ((g : ℕ) → behind ≡ Some g → AreBitsOf gas h width g y bits) → width ≡ c.width →
-    collided_with gas c (option_map (λ _. bits) behind) y row ≡ kept gas c h behind y row
-collided_with-kept gas c h None width y bits row are wide = refl
-collided_with-kept gas c h (Some g) width y bits row are wide = bits-kept gas c h g width y bits row (are g refl) wide
+-- a row that is collided after streaming if a stage behind computes, is as that stage keeps it
+pub advanced-kept : (gas : Rules) (c : ChannelModel) (h : Chirality) (behind : Option ℕ) (collides : Bool) (width y : ℕ) (bits : List Bool) (at : ℕ → ℕ → ℕ) →
+    collides ≡ is_some behind → ((g : ℕ) → behind ≡ Some g → AreBitsOf gas h width g y bits) → width ≡ c.width →
+    row_of c.width (λ x. advanced gas c collides (λ u v. get_or bits u false) at x y) ≡ kept gas c h behind y (row_of c.width (λ x. streamed gas c at x y))
+advanced-kept gas c h None collides width y bits at e are wide =
+    ap (λ (b : Bool). row_of c.width (λ x. advanced gas c b (λ u v. get_or bits u false) at x y)) e
+advanced-kept gas c h (Some g) collides width y bits at e are wide =
+    ap (λ (b : Bool). row_of c.width (λ x. advanced gas c b (λ u v. get_or bits u false) at x y)) e
+    ∙ row_of-same 0 c.width _ (λ x. if is_solid c x y then 0 else gas.collide (get_or (row_of c.width (λ u. streamed gas c at u y)) x 0) (get_or bits x false))
+    (λ x lt. ap (λ (s : ℕ). if is_solid c x y then 0 else gas.collide s (get_or bits x false))
+    (sym (get_or-map-range_with_len (λ u. streamed gas c at u y) 0 c.width x x 0 lt (omega arith))))
+    ∙ bits-kept gas c h g width y bits (row_of c.width (λ u. streamed gas c at u y)) (are g refl) wide
 
 pub collided-kept : (gas : Rules) (c : ChannelModel) (h : Chirality) (g width y : ℕ) (solid bits : List Bool) (row : List ℕ) →
     AreBitsOf gas h width g y bits → width ≡ c.width → length row ≡ c.width → solid ≡ get_or c.solid y [] →

@@ -1,15 +1,14 @@
 //! A stage: it computes the step from one generation to the next row by row, and keeps three rows.
-ghost use Rattle.std.specs.Prelude.{◌≡◌, ◌+◌, ◌<◌, ◌≤◌, ◌++◌, ◌∷◌, ℕ, [], List, length, Option, Some, None, IsSome, IfSome, IfOk, IsTrue, ◌↔◌, option_map};
-ghost use Rattle.std.specs.Option.{option_to_list, option_copied};
+ghost use Rattle.std.specs.Prelude.{◌≡◌, ◌+◌, ◌<◌, ◌≤◌, ◌++◌, ◌∷◌, ℕ, [], List, length, Option, Some, None, IsSome, IfSome, IfOk, IsTrue, ◌↔◌};
+ghost use Rattle.std.specs.Option.{option_to_list};
 ghost use Rattle.gas_geom.specs.Channel.{IsChannel};
 ghost use Rattle.gas_stage.specs.Stage.{StageModel, MayHaveBeenFed, owed, given};
 ghost use Rattle.gas_stage.specs.Inner.Passes.{AreBitsOf, kept, Returned};
 
-use crate::stream::stream_between;
+use crate::stream::stream_into;
 use gas_geom::gas::Gas;
 use gas_rows::channel::Channel;
 use gas_rows::chirality::{Chirality, RandomBits};
-use gas_rows::mask::Mask;
 use gas_rows::row::{Row, collide_row};
 use std::alloc::{AllocError, Global};
 use std::marker::Model;
@@ -33,17 +32,6 @@ fn draw_if<G: Gas>(bits: &mut RandomBits, generation: Option<u64>, y: u32)
 {
     if let Some(generation) = generation {
         bits.draw_for::<G>(generation, y);
-    }
-}
-
-// The bits that were drawn last, if they are for a generation.
-#[inline(always)]
-fn mask_if(bits: &RandomBits, generation: Option<u64>) -> Option<&Mask>
-    ensures { option_copied result ≡ option_map (λ _. bits.now.bits) generation }
-{
-    match generation {
-        Some(_) => Some(bits.mask()),
-        None => None,
     }
 }
 
@@ -246,14 +234,17 @@ impl<'a, G: Gas> Stage<'a, G> {
             return None;
         };
         let above = mem::replace(&mut self.before_last, last);
-        let out = mem::replace(&mut self.oldest, above);
+        let mut given = mem::replace(&mut self.oldest, above);
         draw_if::<G>(&mut self.random_bits, then, y - 1);
-        let given = stream_between(
+        stream_into(
             self.channel,
             y - 1,
-            (&self.oldest, &self.before_last, &row),
-            out,
-            mask_if(&self.random_bits, then),
+            &self.oldest,
+            &self.before_last,
+            &row,
+            self.random_bits.mask(),
+            then.is_some(),
+            &mut given,
         );
         self.last = Some(row);
         Some(given)
@@ -298,16 +289,20 @@ impl<'a, G: Gas> Stage<'a, G> {
         self.mode = Mode::Closed;
         let last = self.last.take()?;
         let upper = mem::replace(&mut self.before_last, last);
-        let out = mem::replace(&mut self.oldest, upper);
+        let mut bottom = mem::replace(&mut self.oldest, upper);
         draw_if::<G>(&mut self.random_bits, then, y - 1);
         // Below the bottom row no row is read.
-        Some(stream_between(
+        stream_into(
             self.channel,
             y - 1,
-            (&self.oldest, &self.before_last, &self.before_last),
-            out,
-            mask_if(&self.random_bits, then),
-        ))
+            &self.oldest,
+            &self.before_last,
+            &self.before_last,
+            self.random_bits.mask(),
+            then.is_some(),
+            &mut bottom,
+        );
+        Some(bottom)
     }
 
     /// The number of rows fed in the open pass, 0 if none is open.

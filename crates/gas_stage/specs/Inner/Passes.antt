@@ -21,12 +21,6 @@ abbrev pub AreBitsOf : Rules → Chirality → ℕ → ℕ → ℕ → List Bool
 AreBitsOf gas chirality width g y bits = (s x : ℕ) → x < width →
     gas.collide s (slice_index_or bits x false) ≡ gas.collide s (chirality_bit chirality width g x y)
 
--- row y after a collision with these random bits, if there are any
-abbrev pub collided_with : Rules → ChannelModel → Option (List Bool) → ℕ → List ℕ → List ℕ
-collided_with gas channel None y row = row
-collided_with gas channel (Some bits) y row =
-    row_of channel.width (λ x. if is_solid channel x y then 0 else gas.collide (slice_index row x) (slice_index_or bits x false))
-
 -- row y as a stage keeps it: after the collision of its step if it computes
 abbrev pub kept : Rules → ChannelModel → Chirality → Option ℕ → ℕ → List ℕ → List ℕ
 kept gas channel chirality None y row = row

@@ -1,4 +1,4 @@
-use Rattle.std.proofs.Common.{◌≡◌, ℕ, List, Bool, false, get_or, ap, sym, ◌∙◌}
+use Rattle.std.proofs.Common.{◌≡◌, ℕ, List, Bool, false, get_or, ap, sym, ◌∙◌, arith}
 use Rattle.gas_bits.specs.Words.{words_in}
 use Rattle.gas_rows.specs.Planes.{cells_of}
 use Rattle.gas_stage.proofs.stream.stream_into.Goals as goal
@@ -12,9 +12,9 @@ invariant_of-neighbourhood g c =
       solid_above_long = c.words.ensures.long ∙ ap words_in (c.mask_beside-solid_above.ensures.wide ∙ sym wide);
       solid_middle_long = c.words-2.ensures.long ∙ ap words_in (c.mask-solid_middle.ensures.wide ∙ sym wide);
       solid_below_long = c.words-3.ensures.long ∙ ap words_in (c.mask_beside-solid_below.ensures.wide ∙ sym wide);
-      fluid_above = λ all x. c.words.ensures.bits x ∙ c.are_blank.ensures.above all x;
-      fluid_middle = λ all x. c.words-2.ensures.bits x ∙ c.are_blank.ensures.middle all x;
-      fluid_below = λ all x. c.words-3.ensures.bits x ∙ c.are_blank.ensures.below all x;
+      fluid_above = λ all x. c.words.ensures.bits x ∙ c.is_blank-2.ensures.blank (let e = all in grind arith) x;
+      fluid_middle = λ all x. c.words-2.ensures.bits x ∙ c.is_blank.ensures.blank (let e = all in grind arith) x;
+      fluid_below = λ all x. c.words-3.ensures.bits x ∙ c.is_blank-3.ensures.blank (let e = all in grind arith) x;
     }
 
 pub returns-clause-streamed : goal.returns-clause-streamed
@@ -24,7 +24,7 @@ returns-clause-streamed g c = λ at about.
     let above = ap (λ (w : ℕ). cells_of dirs w c.as_words.result.now) (wide ∙ sym c.requires.above_wide) ∙ c.as_words.ensures.cells in
     let middle = ap (λ (w : ℕ). cells_of dirs w c.as_words-2.result.now) (wide ∙ sym c.requires.middle_wide) ∙ c.as_words-2.ensures.cells in
     let below = ap (λ (w : ℕ). cells_of dirs w c.as_words-3.result.now) (wide ∙ sym c.requires.below_wide) ∙ c.as_words-3.ensures.cells in
-    c.advance.ensures.streamed c.args.channel.now at (record {
+    c.advance.ensures.advanced c.args.channel.now at (record {
       wide = wide;
       rows = record {
         up_is = λ some x h fluid. ap (λ (r : List ℕ). get_or r x 0) above ∙ about.up_is some x h fluid;

@@ -1,9 +1,8 @@
 use Rattle.std.proofs.Common.{◌-◌, ◌<◌, ℕ, Some, List, [], IsSome, unwrap_or, length, refl, ap, ◌∙◌, sym, subst, arith}
-use Rattle.gas_geom.specs.Lattice.{row_of, streamed}
 use Rattle.gas_rows.specs.Streaming.{AreRowsAbout}
-use Rattle.gas_stage.specs.Inner.Passes.{open_pass, collided_with, kept}
+use Rattle.gas_stage.specs.Inner.Passes.{AreBitsOf, open_pass, kept}
 use Rattle.gas_stage.specs.Stage.{StageModel}
-use Rattle.gas_stage.proofs.Feeding.{not_computing, hands_on-fits, hands_on-gives, pass-fits, pass-gives, first-gives, none_fed, collided_with-kept}
+use Rattle.gas_stage.proofs.Feeding.{not_computing, hands_on-fits, hands_on-gives, pass-fits, pass-gives, first-gives, none_fed, advanced-kept}
 use Rattle.gas_stage.proofs.stage.Stage.pass_on.Goals as goal
 
 pub returns-in_default-clause-passes_on : goal.returns-in_default-clause-passes_on
@@ -50,14 +49,13 @@ returns-clause-gives g c = λ p q r fits enters.
     let some = c.in-Some.ensures.value in
     let held = ap (λ v. unwrap_or v []) some in
     pass-gives gas _ c.args.self.now c.self.view_is c.in-Computes.field-0 (ap open_pass c.in-Computes.is)
-    p q r c.args.row c.stream_between-given.result c.args.then fits enters
+    p q r c.args.row c.stream_into.new.out c.args.then fits enters
     (c.self.invariant.last_fed (subst IsSome some refl))
     (subst (λ (v : StageModel). v.fed < v.channel.height) (sym c.self.view_is) c.requires.room)
-    (λ at about. c.stream_between-given.ensures.streamed at
+    (λ at about. c.stream_into.ensures.streamed at
     (subst (λ (a : List ℕ). AreRowsAbout ch at (s.fed - 1) a c.replace-above.new.dest c.args.row)
-    (sym (c.replace-out.ensures.after ∙ c.replace-above.ensures.value))
+    (sym (c.replace-given.ensures.after ∙ c.replace-above.ensures.value))
     (subst (λ (m : List ℕ). AreRowsAbout ch at (s.fed - 1) s.before_last m c.args.row)
     (sym (c.replace-above.ensures.after ∙ held)) about))
-    ∙ ap (λ b. collided_with gas ch b (s.fed - 1) (row_of ch.width (λ x. streamed gas ch at x (s.fed - 1)))) c.mask_if.ensures
-    ∙ collided_with-kept gas ch s.random_bits.chirality c.args.then (length s.random_bits.bits) (s.fed - 1) c.draw_if.new.bits.bits
-    (row_of ch.width (λ x. streamed gas ch at x (s.fed - 1))) c.draw_if.ensures.drawn c.self.invariant.bits_wide)
+    ∙ advanced-kept gas ch s.random_bits.chirality c.args.then c.is_some.result (length s.random_bits.bits) (s.fed - 1) c.mask.result.now at c.is_some.ensures
+    (λ n e. subst (AreBitsOf gas s.random_bits.chirality (length s.random_bits.bits) n (s.fed - 1)) (sym c.mask.ensures.bits) (c.draw_if.ensures.drawn n e)) c.self.invariant.bits_wide)
