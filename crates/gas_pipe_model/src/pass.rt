@@ -1,6 +1,6 @@
 //! The laws of the line of a pass over a lattice, for every list of turns, and of all passes of a
 //! plan.
-ghost use Rattle.std.specs.Prelude.{◌≡◌, ℕ, true, false, ◌+◌, ◌*◌, ◌<◌, ◌≤◌, List, ◌++◌, length, take, drop};
+ghost use Rattle.std.specs.Prelude.{◌≡◌, ℕ, true, false, ◌+◌, ◌*◌, ◌<◌, ◌≤◌, List, [], ◌∷◌, ◌++◌, length, take, drop};
 ghost use mathlib.Core.List.{IsPrefix};
 ghost use Rattle.gas_rows.specs.Row.{RowModel};
 ghost use Rattle.gas_pipe_model.specs.Line.{start, moves, events, is_done, HasRounds};
@@ -93,6 +93,12 @@ pub fn pass_done_in_rounds()
         HasRounds input.plan.threads
         (2 * input.lattice.channel.height * (input.plan.threads + 1))
         turns → is_done (line_of gas input n) (after gas input n turns) ≡ true }
+{}
+
+/// Two rounds of the feeder and one worker, as a worked example. In each both have a turn, in either
+/// order.
+pub fn two_rounds()
+    ensures rounds { HasRounds 1 2 (0 ∷ 1 ∷ 1 ∷ 0 ∷ []) }
 {}
 
 /// The first pass of a plan begins with the rows of its lattice. Each later pass begins with the
