@@ -18,7 +18,7 @@ const HINT: &str = "fhpgas: --threads T prints the same bytes with T threads (do
 // Goes back to the start of the line and wipes it.
 const WIPE: &str = "\r\x1b[K";
 
-// A run and the passes that its last worker has begun. If it begins one, all before it are over.
+// A run and the passes that its last stage has begun. If it begins one, all before it are over.
 #[derive(Drop)]
 struct Progress {
     stages: u32,
@@ -102,7 +102,7 @@ impl Progress {
 }
 
 /// Prompts for a scene if it `prompts`. If it `reports`, it says how many generations of a run are
-/// computed, and their share of all, in a line that is wiped when the last worker leaves. If it
+/// computed, and their share of all, in a line that is wiped when the last stage leaves. If it
 /// `hints` too, a run of five seconds that was not told its threads also says once that it can be. All
 /// goes to standard error, and a failure to print is ignored.
 #[derive(Drop)]
@@ -125,7 +125,7 @@ impl<'a, R> Terminal<'a, R> {
         }
     }
 
-    // The run, if `who` is its last worker.
+    // The run, if `who` is its last stage.
     fn run_of(&self, who: u32) -> Option<&Progress> {
         self.run.as_ref().filter(|run| who == run.stages)
     }

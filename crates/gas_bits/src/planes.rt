@@ -109,8 +109,7 @@ fn clear_four(four: u64x4, mask: u64x4) -> u64x4
     four & !mask
 }
 
-/// Words `j` to `j + 3` of each direction, and zeros for the directions from `dirs` on and past the end
-/// of a row of fewer than four words.
+/// Words `j` to `j + 3` of each direction, as far as it has them.
 #[inline(always)]
 pub fn four_planes_at(words: &[u64], words_each: usize, dirs: usize, j: usize) -> [u64x4; 8]
     requires few_words { words_each ≤ words_in 65536 }

@@ -163,14 +163,15 @@ fn can_be_stated(chirality: Chirality, generation: u64) -> bool
 }
 
 /// The text of a scene of version 2 with a lattice, its chirality and its generation.
-/// `scene::read` returns the same three, so a run from the text goes on as from the lattice.
+/// `scene::read` returns the same three, or `Memory`, so a run from the text goes on as from the
+/// lattice.
 ///
 /// The text is a TOML document with the keys `cells`, `chirality`, `gas`, `generation` and
 /// `version`. It has `seed` if and only if the chirality is seeded. `cells` are the rows from the
 /// top, in the printed form.
 ///
 /// The error is `Range` if and only if the generation is above 1,000,000,000,000 or a seed is above
-/// 2^63 - 1. Otherwise it is `Memory`: memory was refused.
+/// 2^63 - 1. Any other error is `Memory`.
 pub fn checkpoint(
     alloc: Global,
     lattice: &AnyLattice,

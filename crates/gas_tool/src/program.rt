@@ -42,7 +42,7 @@ impl Fault {
     }
 }
 
-/// Watches the program: what it asks for, and as a gate its workers.
+/// Watches the program: what it asks for, and as a gate its stages.
 pub trait Watch: Gate {
     /// The words are read, and the input comes next.
     fn before_input(&mut self);

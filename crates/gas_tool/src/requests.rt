@@ -25,10 +25,11 @@ use std::thread::Threads;
 
 /// Writes the answer to a request on the scene of a text, or returns the first fault. The order of
 /// faults is: of the scene, of the plan, of the passes of a replay, of the work. Nothing is written
-/// before the answer is whole. The writer is flushed once, after the last byte.
+/// before the answer is whole.
 ///
-/// `Memory` is returned if memory is refused, also while the scene is read, and if a thread cannot
-/// be started. Each worker's thread goes through the gate.
+/// The fault may be `Memory` for any request. It is tested that it comes if memory is refused, also
+/// while the scene is read, and if a thread cannot be started, and that the writer is flushed once,
+/// after the last byte. The stages of a run go through the gate.
 pub fn perform<W: Write, H: Gate + Sync, R: Threads + Wait + Sync>(
     rt: &R,
     alloc: Global,
@@ -152,9 +153,9 @@ fn run_scene<G: Gas + Send, H: Gate + Sync, R: Threads + Wait + Sync>(
     )
 }
 
-/// A run in two parts prints what one run prints, for any stages, capacities and threads.
-/// Let a later text be the scene of a first text's lattice after m generations. Then n generations
-/// of the later text lead to the same answer as m + n generations of the first.
+/// A run in two parts prints what one run prints, for any stages, capacities and threads of plans
+/// that are accepted. Let a later text be the scene of a first text's lattice after m generations.
+/// Then n generations of the later text lead to the same answer as m + n generations of the first.
 pub fn resumed_runs()
     ensures cells { (text later : List ℕ) (scene : SceneModel)
         (m n stages capacity stages2 capacity2 : ℕ) (threads threads2 : Option ℕ) →

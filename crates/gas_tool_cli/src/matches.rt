@@ -68,8 +68,8 @@ fn default_capacity(threads: Option<u32>) -> u32
     }
 }
 
-// The number of an option, if it is given. None if its word is no number. That cannot happen,
-// because `clap` refuses such words.
+// The number of an option, if it is given. None if its word is no number. `clap` refuses such
+// words, but that is not proved.
 fn given(options: &ArgMatches, name: &str) -> Option<Option<u32>>
     ensures { IfSome result (IsGivenAt (rows_of (found_of options.now)) name.now) }
 {
@@ -148,8 +148,7 @@ fn parse_numbers(alloc: Global, words: &[&str]) -> Result<Option<Vec<u32>>, Allo
     Ok(Some(numbers))
 }
 
-// The turns, or None if a word is no number. That cannot happen, because `clap` refuses
-// such words.
+// The turns, or None if a word is no number. `clap` refuses such words, but that is not proved.
 fn turns_of(alloc: Global, options: &ArgMatches) -> Result<Option<Turns>, AllocError>
     ensures { IfOk result (λ r. IfSome r (AreTurnsAt (rows_of (found_of options.now)))) }
 {

@@ -122,8 +122,8 @@ fn usage_of(alloc: Global, error: clap::Error) -> UsageFault
     }
 }
 
-/// The request of the words, the program's name first. The fault is `Help` if the words ask
-/// for help or the version, `Usage` if they are wrong, and `Memory` if memory is refused.
+/// The request of the words, the program's name first. The fault is `Help` only if the words ask
+/// for help or the version, `Usage` only if they are wrong, and `Memory` for any words.
 pub fn parse_words<'a>(alloc: Global, words: &'a [&'a str]) -> Result<Request, UsageFault>
     ensures fault { IfErr result (IsFaultOf
         (fault_of program_app (map (λ s. s.now) words.entry.now))) }
@@ -144,8 +144,8 @@ pub fn parse_words<'a>(alloc: Global, words: &'a [&'a str]) -> Result<Request, U
     }
 }
 
-/// The request of all words that `env::args` returned, in their order. A word that is not UTF-8 is
-/// wrong usage.
+/// The request of all words that `env::args` returned, in their order. If it returned an error, as
+/// for a word that is not UTF-8, the fault is `Usage` or `Memory`.
 pub fn read_request(alloc: Global, words: io::Result<Args>) -> Result<Request, UsageFault>
     ensures allowed { IfOk result IsAllowed }
     ensures request { IfOk result (AskFor words) }

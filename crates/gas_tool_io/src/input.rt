@@ -38,8 +38,8 @@ pub const LONGEST_INPUT: usize = 67_108_864;
 const CHUNK: usize = 16_384;
 
 /// Reads all bytes up to the end of `reader`. Each read except the last returns a byte or more, so
-/// there are at most `LONGEST_INPUT + 1` reads. Any error of the reader is `Read`. An input of more
-/// than `LONGEST_INPUT` bytes is `TooLong`.
+/// there are at most `LONGEST_INPUT + 1` reads. Only an input of more than `LONGEST_INPUT` bytes is
+/// `TooLong`. That an error of the reader is `Read` is tested.
 pub fn slurp<R: Read>(alloc: Global, reader: &mut R) -> Result<Vec<u8>, InputFault>
     ensures bytes { IfOk result (λ text.
         IfSome (R.remaining reader.old) (λ xs. text.items ≡ xs)) }

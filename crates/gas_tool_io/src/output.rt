@@ -120,7 +120,7 @@ fn send<W: Write>(out: &mut W, bytes: &[u8]) -> usize
     sent
 }
 
-/// Adds a line. A line longer than `LINE` counts as failed, but this crate has none.
+/// Adds a line. A line longer than `LINE` counts as failed. Only a long name of a gas makes one.
 pub(crate) fn put_line<W: Write, D: Display + Drop>(sink: &mut Sink, out: &mut W, line: D)
     ensures { IfSome (with_newline (D.output line))
         (Adds (W.contents out.old) (W.contents out.new) sink.old sink.new) }

@@ -63,8 +63,8 @@ fn put_end<G: Gas, W: Write>(sink: &mut Sink, out: &mut W, replay: &Replay<G>, g
 }
 
 /// Writes the state of a replayed pass: `done` or `not done`, then a line per belt. If the pass is
-/// done, the cells of its lattice follow, which is of this generation. Then the writer is flushed
-/// once. The faults are as in `write_cells`.
+/// done, the cells of its lattice follow, which is of this generation. Flush and faults are as in
+/// `write_cells`.
 pub fn write_replay<G: Gas, W: Write>(
     replay: &Replay<G>,
     generation: u64,

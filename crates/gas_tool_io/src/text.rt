@@ -65,8 +65,8 @@ pub(crate) fn put_cells<G: Gas, W: Write>(
 }
 
 /// Writes the cells of a lattice: the line of its generation and its particles, then its rows from
-/// the top, two characters per cell. Then the writer is flushed once. An error of the writer and a
-/// write of 0 bytes are faults.
+/// the top, two characters per cell. It is tested that the writer is then flushed once, and that an
+/// error of the writer and a write of 0 bytes are faults.
 pub fn write_cells<G: Gas, W: Write>(
     lattice: &Lattice<G>,
     generation: u64,
@@ -81,8 +81,8 @@ pub fn write_cells<G: Gas, W: Write>(
 }
 
 /// Writes the summary of a lattice, a line. It has this name of its gas, the width and the height in
-/// cells, and the numbers of solid cells and of particles. Then the writer is flushed once. The
-/// faults are as in `write_cells`.
+/// cells, and the numbers of solid cells and of particles. Flush and faults are as in `write_cells`.
+/// A line of more than 128 bytes is a fault too, before its first byte.
 pub fn write_summary<G: Gas, W: Write>(
     gas: &str,
     lattice: &Lattice<G>,
@@ -132,8 +132,7 @@ fn put_blocks<W: Write>(sink: &mut Sink, out: &mut W, blocks: &[Block])
 
 /// Writes the table of blocks: a header, then a line per block in the given order. The six columns
 /// are the fields of `Block`, right-aligned in 5, 5, 8, 9, 10 and 10 places, with one space between
-/// them. A number that needs more places takes them. Then the writer is flushed once. The faults
-/// are as in `write_cells`.
+/// them. A number that needs more places takes them. Flush and faults are as in `write_cells`.
 pub fn write_table<W: Write>(blocks: &[Block], out: &mut W) -> Result<(), WriteFault>
     ensures written { Writes (W.contents out.old) (W.contents out.new)
         (table_text blocks.now) result }
