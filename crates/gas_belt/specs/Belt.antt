@@ -11,12 +11,13 @@ pub record Belt : Type 0 where
   pub capacity : ℕ
   pub ring : Ptr × Ptr × Names × Global
 
--- the end of a belt that rows are put on, open or closed: its belt, all rows put so far, in order, and the row of the newest put, if it was
--- not handed out since
+-- the end of a belt that rows are put on, open or closed: its belt, all rows put so far, in order, the row of the newest put, if it was not
+-- handed out since, and the number of rows for which the belt is known to have places
 pub record Sender : Type 0 where
   pub belt : Belt
   pub put : List RowModel
   pub spare : Option RowModel
+  pub limit : ℕ
 
 -- the end that rows are taken from: its belt, all rows taken so far, in order, and the number of its spare rows
 pub record Receiver : Type 0 where

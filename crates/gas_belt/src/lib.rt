@@ -33,6 +33,7 @@ pub fn belt<G: Gas>(alloc: Global, capacity: u32, width: u32) -> Result<(Tx<G>, 
     ensures capacity { IfOk result (λ r. r.0.belt.capacity ≡ capacity) }
     ensures nothing_put { IfOk result (λ r. r.0.put ≡ []) }
     ensures no_spare { IfOk result (λ r. r.0.spare ≡ None) }
+    ensures limit { IfOk result (λ r. r.0.limit ≡ r.0.belt.capacity) }
     ensures nothing_taken { IfOk result (λ r. r.1.taken ≡ []) }
     ensures two_spares { IfOk result (λ r. r.1.held ≡ 2) }
 {

@@ -65,6 +65,8 @@ impl<T: Copy, const PUSHES: bool> End<T, PUSHES> {
         self.limit = self.ring.limits[usize::from(PUSHES)].0.load(Ordering::Acquire);
         self.cached_slots()
     }
+    /// The same as `slots`. The other end says in a proof that the two are one ring's.
+    pub fn slots_beside<const P: bool>(&mut self, _: &mut End<T, P>) -> usize { self.slots() }
     /// Has n items copied, by a slot, the first item's number and how many, or none. They are two
     /// parts if they go round the ring's end.
     fn pass(
@@ -102,8 +104,6 @@ impl<T: Copy> Producer<T> {
 }
 
 impl<T: Copy> Consumer<T> {
-    /// The same as `slots`. The other end says in a proof that the two are one ring's.
-    pub fn slots_beside(&mut self, _: &mut Producer<T>) -> usize { self.slots() }
     /// Pops so many items, or none.
     pub fn pop_entire_slice(&mut self, out: &mut [T]) -> Result<(), ChunkError> {
         // SAFETY: these slots are full, and only this end reads full slots.

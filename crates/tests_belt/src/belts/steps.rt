@@ -241,6 +241,17 @@ fn rows_have_their_places_in_any_order(rt: HostRuntime) -> Result<(), Fail> {
     Ok(())
 }
 
+#[test]
+fn a_look_beside_loses_no_place(rt: HostRuntime) -> Result<(), Fail> {
+    let (mut tx, mut rx) = ends(rt.alloc(), 2, 4)?;
+    let full = [Put(10), Put(20), PutBack(30), Taken(10)];
+    play(&rt, rt.alloc(), &mut tx, &mut rx, 4, &full)?;
+    tx.look_beside(&mut rx);
+    let one_place = [Put(30), PutBack(40), Taken(20), Spare(30)];
+    play(&rt, rt.alloc(), &mut tx, &mut rx, 4, &one_place)?;
+    Ok(())
+}
+
 // Puts a row with this number in its last cell, takes it, and gives it back. Returns the row that was
 // put; None if the belt had no place, or if no row came, or another.
 fn carry_one(
