@@ -11,8 +11,8 @@ use Rattle.gas_belt.specs.Inner.Ring.{belt_of}
 pub same_belt : (dirs width : ℕ) (a b : End ℕ Global AnyItems) → SameRing a b → belt_of dirs width b ≡ belt_of dirs width a
 same_belt dirs width a b same = search rules
 
-abbrev pub receiver : Belt → List RowModel → ℕ → Receiver
-receiver b t h = record { belt = b; taken = t; held = h }
+abbrev pub receiver : Belt → List RowModel → ℕ → ℕ → Receiver
+receiver b t h m = record { belt = b; taken = t; held = h; most = m }
 
-pub receiver_is : {b c : Belt} {t u : List RowModel} {h k : ℕ} → b ≡ c → t ≡ u → h ≡ k → receiver b t h ≡ receiver c u k
-receiver_is eb et eh = search rules
+pub receiver_is : {b c : Belt} {t u : List RowModel} {h k m n : ℕ} → b ≡ c → t ≡ u → h ≡ k → m ≡ n → receiver b t h m ≡ receiver c u k n
+receiver_is eb et eh em = search rules

@@ -19,11 +19,12 @@ pub record Sender : Type 0 where
   pub spare : Option RowModel
   pub limit : ℕ
 
--- the end that rows are taken from: its belt, all rows taken so far, in order, and the number of its spare rows
+-- the end that rows are taken from: its belt, all rows taken so far, in order, the number of its spare rows, and how many it has room for
 pub record Receiver : Type 0 where
   pub belt : Belt
   pub taken : List RowModel
   pub held : ℕ
+  pub most : ℕ
 
 -- what a belt carried: all rows put on it, and all rows taken from it, in order
 pub record CarriedModel : Type 0 where

@@ -21,8 +21,8 @@ use std::alloc::{AllocError, Global};
 
 /// A belt for rows of `width` cells, 1 to 65536, with places for `capacity` rows, 1 to 1024: a
 /// queue with a single producer and a single consumer. Returns its two ends, unused. Each may go to
-/// a thread of its own. The end that rows are taken from has two spare rows. All memory of the belt
-/// is taken here. Each end frees its own rows, and the second end frees the ring.
+/// a thread of its own. The end that rows are taken from has two spare rows, and room for two. All
+/// memory of the belt is taken here. Each end frees its own rows, and the second end frees the ring.
 pub fn belt<G: Gas>(alloc: Global, capacity: u32, width: u32) -> Result<(Tx<G>, Rx<G>), AllocError>
     requires some_places { 1 ≤ capacity }
     requires few_places { capacity ≤ 1024 }
@@ -36,6 +36,7 @@ pub fn belt<G: Gas>(alloc: Global, capacity: u32, width: u32) -> Result<(Tx<G>, 
     ensures limit { IfOk result (λ r. r.0.limit ≡ r.0.belt.capacity) }
     ensures nothing_taken { IfOk result (λ r. r.1.taken ≡ []) }
     ensures two_spares { IfOk result (λ r. r.1.held ≡ 2) }
+    ensures two_places { IfOk result (λ r. r.1.most ≡ 2) }
 {
     let row = Row::<G>::blank(alloc, width)?;
     let words = zeros_apart(alloc, row.as_words().len())?;

@@ -9,11 +9,8 @@ use gas_rows::row::Row;
 use std::alloc::{AllocError, Global};
 use std::marker::Model;
 
-// The most spare rows that are held.
-const MOST_SPARES: usize = 2;
-
-/// The end of a belt that rows are taken from. It counts them, and has up to two spare rows, into
-/// which the next rows are taken.
+/// The end of a belt that rows are taken from. It counts them, and has some spare rows, into which
+/// the next rows are taken.
 #[derive(Drop)]
 pub struct Rx<G: Gas> {
     pub(crate) end: PopEnd,
@@ -34,15 +31,17 @@ impl<G: Gas> Model for Rx<G> {
       belt = belt_of G.rules.dirs r.width r.end.ring.end;
       taken = rows_in G.rules.dirs r.width r.count (received r.end.ring);
       held = vec_len r.spares;
+      most = vec_capacity r.spares;
     } };
 
     ghost invariant = { λ r. record {
       counted : length (received r.end.ring) ≡ row_words G.rules.dirs r.width * r.count;
       long : vec_len r.end.words ≡ row_words G.rules.dirs r.width;
       some : 0 < vec_len r.end.words;
-      places : vec_capacity r.spares ≡ 2;
-      few : vec_len r.spares ≤ 2;
+      few : vec_capacity r.spares ≤ 65;
       wide : All (λ row. length row ≡ r.width) r.spares.items;
+      some_cells : 1 ≤ r.width;
+      few_cells : r.width ≤ 65536;
     } };
 }
 
@@ -53,18 +52,35 @@ impl<G: Gas> Rx<G> {
         requires nothing { received end.ring ≡ [] }
         requires some_words { 0 < vec_len end.words }
         requires long { vec_len end.words ≡ row_words G.rules.dirs width }
+        requires some_cells { 1 ≤ width }
+        requires few_cells { width ≤ 65536 }
         ensures fresh { IfOk result (λ r. r ≡ record {
           belt = belt_of G.rules.dirs width end.ring.end;
           taken = [];
           held = 0;
+          most = 2;
         }) }
     {
         Ok(Rx {
             end,
             count: 0,
             width,
-            spares: Vec::with_capacity(alloc, MOST_SPARES)?,
+            spares: Vec::with_capacity(alloc, 2)?,
         })
+    }
+
+    /// The end with that number of spare rows, at most 65, in place of those that it has. It takes
+    /// their memory here.
+    pub fn with_spares(mut self, alloc: Global, count: u32) -> Result<Self, AllocError>
+        requires few { count ≤ 65 }
+        ensures fresh { IfOk result (λ r. r ≡ record self { held = count; most = count }) }
+    {
+        self.spares = Vec::with_capacity(alloc, count as usize)?;
+        let width = self.width;
+        for _ in 0..count {
+            self.give(Row::blank(alloc, width)?);
+        }
+        Ok(self)
     }
 
     /// Takes the oldest row on the belt, into one of the spare rows. None if not all of its words
@@ -96,22 +112,22 @@ impl<G: Gas> Rx<G> {
         Some(row)
     }
 
-    /// Keeps the row as a spare row, into which a later row may be taken. It is dropped if two are
-    /// held, or if its width is not the belt's. It never waits. That it takes no memory is tested.
+    /// Keeps the row as a spare row, into which a later row may be taken. It is dropped if there is no
+    /// room for it, or if its width is not the belt's. It never waits. That it takes no memory is tested.
     pub fn give(&mut self, row: Row<G>)
         ensures kept { length row ≡ self.old.belt.width →
-            self.new ≡ record self.old { held = min 2 (self.old.held + 1) } }
+            self.new ≡ record self.old { held = min self.old.most (self.old.held + 1) } }
         ensures dropped { length row ≢ self.old.belt.width → self.new ≡ self.old }
     {
-        if row.width() == self.width && self.spares.len() < MOST_SPARES {
+        if row.width() == self.width && self.spares.len() < self.spares.capacity() {
             self.spares.push_reserved(row);
         }
     }
 
-    /// The number of spare rows held, 0 to 2.
+    /// The number of spare rows held.
     pub fn held(&self) -> u32
         ensures value { result ≡ self.now.held }
-        ensures few { result ≤ 2 }
+        ensures few { result ≤ self.now.most }
     {
         self.spares.len() as u32
     }

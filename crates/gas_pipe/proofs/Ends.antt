@@ -1,9 +1,8 @@
 -- What steps of the ends of belts do to their lists.
-use Rattle.std.proofs.Common.{◌≡◌, ◌+◌, ◌-◌, ◌<◌, ◌≤◌, ◌++◌, ◌∷◌, [], length, min, List, Option, Some, None, ap, subst, ◌∙◌}
+use Rattle.std.proofs.Common.{◌≡◌, ◌+◌, ◌-◌, ◌++◌, ◌∷◌, [], length, min, List, Option, Some, None, ap, subst, ◌∙◌}
 use Rattle.gas_rows.specs.Row.{RowModel}
 use Rattle.gas_belt.specs.Belt.{Sender, Receiver}
 use Rattle.gas_pipe_members.specs.Ends.{MayGet, Sends, Takes}
-use Rattle.gas_pipe.specs.Inner.Worker.{StockModel}
 
 abbrev pub one_more : RowModel → List RowModel → List RowModel
 one_more row l = l ++ row ∷ []
@@ -12,7 +11,7 @@ abbrev pub takes : Receiver → RowModel → Receiver → Type 0
 takes old row new = (new ≡ record old { taken = old.taken ++ row ∷ []; held = old.held - 1 }) × (length row ≡ old.belt.width)
 
 abbrev pub gets : Receiver → RowModel → Receiver → Type 0
-gets old row new = (new ≡ record old { held = new.held }) × (length row ≡ old.belt.width → min 2 (old.held + 1) ≤ new.held)
+gets old row new = (new ≡ record old { held = new.held }) × (length row ≡ old.belt.width → new.held ≡ min old.most (old.held + 1))
 
 abbrev pub puts : Sender → RowModel → Sender → Type 0
 puts old row new = (new ≡ record old { put = old.put ++ row ∷ []; spare = Some row }) × (length row ≡ old.belt.width)
@@ -20,17 +19,10 @@ puts old row new = (new ≡ record old { put = old.put ++ row ∷ []; spare = So
 abbrev pub lends : Sender → Option RowModel → Sender → Type 0
 lends old spare new = (spare ≡ old.spare) × (new ≡ record old { spare = None })
 
--- the same of the end that a worker takes from
-abbrev pub stock_takes : StockModel → RowModel → StockModel → Type 0
-stock_takes old row new = (new ≡ record old { taken = old.taken ++ row ∷ []; held = old.held - 1 }) × (length row ≡ old.belt.width)
-
-abbrev pub stock_gets : StockModel → RowModel → StockModel → Type 0
-stock_gets old row new = (new ≡ record old { held = new.held }) × (length row ≡ old.belt.width → old.held < old.most → new.held ≡ old.held + 1)
-
 -- it was given the spare row of a put
-pub stock_got : (a b : StockModel) (x y : Sender) (row : RowModel) (spare : Option RowModel) → Sends puts lends x row spare y → MayGet stock_gets a spare b → stock_gets a row b
-stock_got a b x y row spare step got =
-    subst (λ (o : Option RowModel). MayGet stock_gets a o b) (step.lent.0 ∙ ap (λ (t : Sender). t.spare) step.put.0) got
+pub got_spare : (a b : Receiver) (x y : Sender) (row : RowModel) (spare : Option RowModel) → Sends puts lends x row spare y → MayGet gets a spare b → gets a row b
+got_spare a b x y row spare step got =
+    subst (λ (o : Option RowModel). MayGet gets a o b) (step.lent.0 ∙ ap (λ (t : Sender). t.spare) step.put.0) got
 
 -- an end that may have been given a row
 got : (a b : Receiver) (spare : Option RowModel) → MayGet gets a spare b → (b.taken ≡ a.taken) × (b.belt ≡ a.belt)

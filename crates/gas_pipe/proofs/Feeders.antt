@@ -38,12 +38,13 @@ module _ {gas : Rules} {input : RunInputModel} {f : LineFeederModel} (was : HasF
         fed = fed_on gas input f.feeder v f.tx.put f.rx.taken t.put r.taken (λ l. l) (one_more row) was.fed channel feeds (ap (λ (s : Sender). s.put) rests) end.0;
         spares = omega (arith, given.0, was.spares, ap (λ (l : List RowModel). length l) end.0, length-append f.rx.taken (row ∷ []), ap (λ (s : Sender). length s.put) rests);
         held = given.1;
+        room = given.2;
       }
     where
       between : Receiver
       between = step.between
 
-      gave : (o : Option RowModel) → MayGet gets between o r → Gives f.feeder.channel.width f.feeder.spares o v.spares → (v.spares + 1 ≡ f.feeder.spares) × (2 ≤ r.held)
+      gave : (o : Option RowModel) → MayGet gets between o r → Gives f.feeder.channel.width f.feeder.spares o v.spares → (v.spares + 1 ≡ f.feeder.spares) × (2 ≤ r.held) × (2 ≤ r.most)
       gave None got none = absurd (omega (arith, none, less (omega (arith, was.spares, was.fed.fed.puts, was.fed.fed.takes, ahead))))
       gave (Some other) got one = (
         one.1,
@@ -51,8 +52,11 @@ module _ {gas : Rules} {input : RunInputModel} {f : LineFeederModel} (was : HasF
           arith,
           got.1 (one.0 ∙ sym wide ∙ sym (ap (λ (e : Receiver). e.belt.width) step.took.0)),
           ap (λ (e : Receiver). e.held) step.took.0,
+          ap (λ (e : Receiver). e.most) step.took.0,
           was.held,
+          was.room,
         ),
+        omega (arith, ap (λ (e : Receiver). e.most) got.0, ap (λ (e : Receiver). e.most) step.took.0, was.room),
       )
 
   pub fed_put : (row : RowModel) (spare : Option RowModel) → Sends puts lends f.tx row spare t → Keeps f.feeder.channel.width f.feeder.spares spare v.spares →
@@ -66,4 +70,5 @@ module _ {gas : Rules} {input : RunInputModel} {f : LineFeederModel} (was : HasF
         fed = fed_on gas input f.feeder v f.tx.put f.rx.taken t.put r.taken (one_more row) (λ l. l) was.fed channel feeds end.0 (ap (λ (s : Receiver). s.taken) rests);
         spares = omega (arith, kept, was.spares, ap (λ (l : List RowModel). length l) end.0, length-append f.tx.put (row ∷ []), ap (λ (s : Receiver). length s.taken) rests);
         held = rw rests was.held;
+        room = rw rests was.room;
       }

@@ -6,7 +6,7 @@ use Rattle.std.proofs.Math.Nat.{suc-mul, zero-mul}
 use Rattle.gas_geom.specs.Gas.{Rules}
 use Rattle.gas_geom.specs.Channel.{ChannelModel}
 use Rattle.gas_rows.specs.Row.{RowModel}
-use Rattle.gas_belt.specs.Belt.{Sender}
+use Rattle.gas_belt.specs.Belt.{Sender, Receiver}
 use Rattle.gas_stage.specs.Stages.{owed_by, passes_from}
 use Rattle.gas_stage.proofs.OwedBy.{owed_by-all}
 use Rattle.gas_pipe_members.specs.Ends.{MayGet, Sends}
@@ -15,11 +15,11 @@ use Rattle.gas_pipe_members.proofs.Workers.{closed_all, gave_few, gave_most}
 use Rattle.gas_pipe_model.specs.Plan.{PlanModel, before}
 use Rattle.gas_pipe_model.specs.Pass.{generations_of}
 use Rattle.gas_pipe_model.proofs.Circle.{owed_pass, owed_none, owed_high}
-use Rattle.gas_pipe.specs.Inner.Worker.{StockModel, LineWorkerModel, Job, job_of, does_in, owes_until, HasSpares, HasCome, HasFinished}
-use Rattle.gas_pipe.proofs.Ends.{one_more, puts, lends, stock_takes, stock_gets, stock_got, sent}
+use Rattle.gas_pipe.specs.Inner.Worker.{LineWorkerModel, Job, job_of, does_in, owes_until, HasSpares, HasCome, HasFinished}
+use Rattle.gas_pipe.proofs.Ends.{one_more, puts, lends, takes, gets, got_spare, sent}
 
 -- the worker v between the ends r and t, in the place of that of w
-abbrev pub with_worker : LineWorkerModel → WorkerModel → StockModel → Sender → LineWorkerModel
+abbrev pub with_worker : LineWorkerModel → WorkerModel → Receiver → Sender → LineWorkerModel
 with_worker w v r t = record w { worker = v; rx = r; tx = t }
 
 -- how many rows it took and put
@@ -54,7 +54,7 @@ one_waits None = omega arith
 one_waits (Some row) = omega arith
 
 -- a step of its worker between its ends
-module _ {gas : Rules} {w : LineWorkerModel} (was : HasCome gas w) (v : WorkerModel) (r : StockModel) (t : Sender) (same : SameWorker w.worker v) where
+module _ {gas : Rules} {w : LineWorkerModel} (was : HasCome gas w) (v : WorkerModel) (r : Receiver) (t : Sender) (same : SameWorker w.worker v) where
   same_job : r.belt ≡ w.rx.belt → t.belt ≡ w.tx.belt → job_of (with_worker w v r t) ≡ job_of w
   same_job from to = rw (same.channel, same.chirality, from, to) refl
 
@@ -85,10 +85,10 @@ module _ {gas : Rules} {w : LineWorkerModel} (was : HasCome gas w) (v : WorkerMo
       }
 
   -- it took a row, put a row, or did neither
-  pub came_took : (row : RowModel) → stock_takes w.rx row r → t ≡ w.tx → Does gas w.worker (one_more row) (λ l. l) v → HasCome gas (with_worker w v r t)
+  pub came_took : (row : RowModel) → takes w.rx row r → t ≡ w.tx → Does gas w.worker (one_more row) (λ l. l) v → HasCome gas (with_worker w v r t)
   came_took row took rests does =
-      steps (one_more row) (λ l. l) (λ a l. append_assoc a l (row ∷ [])) (λ a l. refl) (ap (λ (s : StockModel). s.belt) took.0) (ap (λ (s : Sender). s.belt) rests) does
-      (ap (λ (s : StockModel). s.taken) took.0) (ap (λ (s : Sender). s.put) rests)
+      steps (one_more row) (λ l. l) (λ a l. append_assoc a l (row ∷ [])) (λ a l. refl) (ap (λ (s : Receiver). s.belt) took.0) (ap (λ (s : Sender). s.belt) rests) does
+      (ap (λ (s : Receiver). s.taken) took.0) (ap (λ (s : Sender). s.put) rests)
       (λ few most. record {
         count =
             omega (
@@ -97,34 +97,34 @@ module _ {gas : Rules} {w : LineWorkerModel} (was : HasCome gas w) (v : WorkerMo
               one_waits v.waiting,
               was.spares.count,
               same.count,
-              ap (λ (s : StockModel). s.held) took.0,
-              ap (λ (s : StockModel). length s.taken) took.0,
+              ap (λ (s : Receiver). s.held) took.0,
+              ap (λ (s : Receiver). length s.taken) took.0,
               length-append w.rx.taken (row ∷ []),
               ap (λ (s : Sender). length s.put) rests,
             );
-        room = ap (λ (s : StockModel). s.most) took.0 ∙ omega (arith, was.spares.room, same.count);
+        room = ap (λ (s : Receiver). s.most) took.0 ∙ omega (arith, was.spares.room, same.count);
       })
 
-  pub came_put : (row : RowModel) (spare : Option RowModel) → Sends puts lends w.tx row spare t → MayGet stock_gets w.rx spare r → length row ≡ w.rx.belt.width →
+  pub came_put : (row : RowModel) (spare : Option RowModel) → Sends puts lends w.tx row spare t → MayGet gets w.rx spare r → length row ≡ w.rx.belt.width →
       Does gas w.worker (λ l. l) (one_more row) v → HasCome gas (with_worker w v r t)
   came_put row spare sends gets wide does =
       let put = sent w.tx t row spare sends in
-      let got = stock_got w.rx r w.tx t row spare sends gets in
-      steps (λ l. l) (one_more row) (λ a l. refl) (λ a l. append_assoc a l (row ∷ [])) (ap (λ (s : StockModel). s.belt) got.0) put.1 does
-      (ap (λ (s : StockModel). s.taken) got.0) put.0
+      let got = got_spare w.rx r w.tx t row spare sends gets in
+      steps (λ l. l) (one_more row) (λ a l. refl) (λ a l. append_assoc a l (row ∷ [])) (ap (λ (s : Receiver). s.belt) got.0) put.1 does
+      (ap (λ (s : Receiver). s.taken) got.0) put.0
       (λ few most.
       let longer : length t.put ≡ length w.tx.put + 1 = ap (λ (l : List RowModel). length l) put.0 ∙ length-append w.tx.put (row ∷ []) in
-      let taken : length r.taken ≡ length w.rx.taken = ap (λ (s : StockModel). length s.taken) got.0 in
-      let held : r.held ≡ w.rx.held + 1 = got.1 wide (omega (arith, few, longer, taken, was.spares.count, was.spares.room)) in
+      let taken : length r.taken ≡ length w.rx.taken = ap (λ (s : Receiver). length s.taken) got.0 in
+      let held : r.held ≡ w.rx.held + 1 = omega (arith, got.1 wide, few, longer, taken, was.spares.count, was.spares.room) in
       record {
         count = omega (arith, held, taken, longer, was.spares.count, same.count);
-        room = ap (λ (s : StockModel). s.most) got.0 ∙ omega (arith, was.spares.room, same.count);
+        room = ap (λ (s : Receiver). s.most) got.0 ∙ omega (arith, was.spares.room, same.count);
       })
 
   pub came_rests : r ≡ w.rx → t ≡ w.tx → Does gas w.worker (λ l. l) (λ l. l) v → HasCome gas (with_worker w v r t)
   came_rests still rests does =
-      steps (λ l. l) (λ l. l) (λ a l. refl) (λ a l. refl) (ap (λ (s : StockModel). s.belt) still) (ap (λ (s : Sender). s.belt) rests) does
-      (ap (λ (s : StockModel). s.taken) still) (ap (λ (s : Sender). s.put) rests)
+      steps (λ l. l) (λ l. l) (λ a l. refl) (λ a l. refl) (ap (λ (s : Receiver). s.belt) still) (ap (λ (s : Sender). s.belt) rests) does
+      (ap (λ (s : Receiver). s.taken) still) (ap (λ (s : Sender). s.put) rests)
       (λ few most. record { count = rw (still, rests, same.count) was.spares.count; room = rw (still, same.count) was.spares.room })
 
 -- its open pass is closed

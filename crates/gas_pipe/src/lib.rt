@@ -18,7 +18,6 @@ mod line;
 mod line_worker;
 mod own;
 mod share;
-mod stock;
 mod waiter;
 pub mod wake_ups;
 

@@ -2,7 +2,7 @@
 ghost use Rattle.std.specs.Prelude.{◌≡◌, ◌<◌, ◌≤◌, ◌+◌, ◌++◌, ◌∷◌, List, [], length, map, vec_len, vec_capacity, IfOk, IfSome};
 ghost use Rattle.std.specs.Option.{option_to_list};
 ghost use Rattle.gas_pipe_model.specs.Pass.{RunInputModel};
-ghost use Rattle.gas_pipe.specs.Inner.Worker.{Job, job_of, job_in, HasCome, HasFinished, HasEnded};
+ghost use Rattle.gas_pipe.specs.Inner.Worker.{Job, job_of, job_in, IsUnused, HasCome, HasFinished, HasEnded};
 ghost use Rattle.gas_pipe.specs.Inner.Feeder.{LineFeederModel, HasBegun};
 ghost use Rattle.gas_pipe.specs.Inner.Own.{OwnHasCome, IsOver};
 ghost use Rattle.gas_pipe.specs.Inner.Links.{AllHaveCome, IsLinked, worker_of, jobs_of, HaveMet, IsRunOf};
@@ -29,11 +29,9 @@ use std::thread::{PromisedHandle, Scope, Threads};
 // A belt for rows of the input's lattice.
 fn make_belt<G: Gas>(alloc: Global, input: &RunInput<'_, G>) -> Result<(Tx<G>, Rx<G>), AllocError>
     ensures one_belt { IfOk result (λ r. r.0.belt ≡ r.1.belt) }
-    ensures wide { IfOk result (λ r. r.1.belt.width ≡ input.now.lattice.channel.width) }
+    ensures unused { IfOk result (λ r. IsUnused input.now r.1) }
     ensures capacity { IfOk result (λ r. r.1.belt.capacity ≡ input.now.plan.capacity) }
     ensures nothing_put { IfOk result (λ r. r.0.put ≡ []) }
-    ensures nothing_taken { IfOk result (λ r. r.1.taken ≡ []) }
-    ensures two_spares { IfOk result (λ r. r.1.held ≡ 2) }
 {
     let width = input.lattice.channel().size().width();
     belt(alloc, input.span.plan.capacity(), width)
@@ -48,14 +46,10 @@ fn make_worker<'e, G: Gas>(
 ) -> Result<(LineWorker<'e, G>, Rx<G>), AllocError>
     requires one_of { number < input.now.plan.threads }
     requires some { 0 < input.now.plan.generations }
-    requires wide { rx.belt.width ≡ input.now.lattice.channel.width }
-    requires nothing_taken { rx.taken ≡ [] }
-    requires two_spares { rx.held ≡ 2 }
+    requires unused { IsUnused input.now rx }
     ensures job { IfOk result (λ r. job_of r.0 ≡ job_in input.now number rx.belt r.1.belt) }
     ensures come { IfOk result (λ r. HasCome G.rules r.0) }
-    ensures wide { IfOk result (λ r. r.1.belt.width ≡ input.now.lattice.channel.width) }
-    ensures nothing_taken { IfOk result (λ r. r.1.taken ≡ []) }
-    ensures two_spares { IfOk result (λ r. r.1.held ≡ 2) }
+    ensures unused { IfOk result (λ r. IsUnused input.now r.1) }
 {
     let (tx, next) = make_belt(alloc, input)?;
     let worker = LineWorker::new(alloc, input, Share::of(input.span.plan, number), rx, tx)?;

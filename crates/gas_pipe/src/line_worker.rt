@@ -3,12 +3,11 @@ ghost use Rattle.std.specs.Prelude.{◌≡◌, ◌+◌, ◌<◌, [], IfOk, IsTru
 ghost use Rattle.gas_pipe_model.specs.Plan.{before};
 ghost use Rattle.gas_pipe_members.specs.Worker.{IsClosed};
 ghost use Rattle.gas_pipe.specs.declared.waiter.Turn.TheVariants.{Over};
-ghost use Rattle.gas_pipe.specs.Inner.Worker.{job_of, job_in, HasCome, HasFinished, HasEnded};
+ghost use Rattle.gas_pipe.specs.Inner.Worker.{job_of, job_in, IsUnused, HasCome, HasFinished, HasEnded};
 
 use crate::Gate;
 use crate::job::{Shared, ThreadJob};
 use crate::share::Share;
-use crate::stock::Stock;
 use crate::waiter::{Turn, Waiter};
 use gas_belt::rx::Rx;
 use gas_belt::tx::{Spent, Tx};
@@ -27,7 +26,7 @@ pub struct LineWorker<'a, G: Gas> {
     span: Span,
     pass: u64,
     worker: Worker<'a, G>,
-    rx: Stock<G>,
+    rx: Rx<G>,
     tx: Tx<G>,
 }
 
@@ -71,9 +70,7 @@ impl<'a, G: Gas> LineWorker<'a, G> {
         requires stages { before input.now.plan share.number + share.stages
             ≡ before input.now.plan (share.number + 1) }
         requires some { 0 < input.now.plan.generations }
-        requires wide { rx.belt.width ≡ input.now.lattice.channel.width }
-        requires two_spares { rx.held ≡ 2 }
-        requires nothing_taken { rx.taken ≡ [] }
+        requires unused { IsUnused input.now rx }
         requires nothing_put { tx.put ≡ [] }
         ensures job { IfOk result (λ w. job_of w ≡ job_in input.now share.number rx.belt tx.belt) }
         ensures come { IfOk result (λ w. HasCome G.rules w) }
@@ -87,7 +84,7 @@ impl<'a, G: Gas> LineWorker<'a, G> {
             span: input.span,
             pass: 0,
             worker,
-            rx: Stock::new(alloc, rx, channel.size().width(), share.stages)?,
+            rx: rx.with_spares(alloc, share.stages + 1)?,
             tx,
         })
     }
@@ -176,7 +173,7 @@ impl<'a, G: Gas> LineWorker<'a, G> {
         ensures { HasEnded G.rules (job_of self.entry) result }
     {
         Ended {
-            rx: self.rx.into_rx(),
+            rx: self.rx,
             spent: self.tx.close(),
         }
     }

@@ -82,7 +82,7 @@ impl<G: Gas> TakeEnd<Row<G>> for Rx<G> {
     ghost ready = { λ _. ⊥ };
 
     ghost gets = { λ old row new. (new ≡ record old { held = new.held })
-        × (length row ≡ old.belt.width → min 2 (old.held + 1) ≤ new.held) };
+        × (length row ≡ old.belt.width → new.held ≡ min old.most (old.held + 1)) };
 
     #[inline(always)]
     fn try_take(&mut self) -> Option<Row<G>> {

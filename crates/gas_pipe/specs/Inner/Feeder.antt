@@ -33,6 +33,7 @@ pub record HasFed (gas : Rules) (input : RunInputModel) (f : LineFeederModel) : 
   pub fed : MayHaveFedInput gas input f.feeder f.tx.put f.rx.taken
   pub spares : f.feeder.spares + length f.rx.taken ≡ length f.tx.put
   pub held : 2 ≤ f.rx.held
+  pub room : 2 ≤ f.rx.most
 
 -- they are between the same belts
 pub record SameFeeder (old new : LineFeederModel) : Type 0 where

@@ -23,12 +23,12 @@ pub record Job : Type 0 where
   pub from : Belt
   pub to : Belt
 
--- the end that a worker takes from: its belt, all rows taken from it, in order, the number of its spare rows, and how many it has room for
-pub record StockModel : Type 0 where
-  pub belt : Belt
-  pub taken : List RowModel
-  pub held : ℕ
-  pub most : ℕ
+-- an end of a belt for rows of the input's lattice, from which none was taken, with two spare rows
+pub record IsUnused (input : RunInputModel) (rx : Receiver) : Type 0 where
+  pub wide : rx.belt.width ≡ input.lattice.channel.width
+  pub nothing_taken : rx.taken ≡ []
+  pub two_spares : rx.held ≡ 2
+  pub two_places : rx.most ≡ 2
 
 -- a worker's number, the first generation, the plan, the open pass, the worker itself, and its ends; numbers and passes are counted from 0
 pub record LineWorkerModel : Type 0 where
@@ -37,7 +37,7 @@ pub record LineWorkerModel : Type 0 where
   pub plan : PlanModel
   pub pass : ℕ
   pub worker : WorkerModel
-  pub rx : StockModel
+  pub rx : Receiver
   pub tx : Sender
 
 -- the ends of a worker that is over

@@ -18,9 +18,7 @@ loop-number-init g c =
       end = rw none refl;
       count = rw none refl;
       come = rw none tt;
-      wide = c.in_ok-tx.ensures.wide;
-      nothing_taken = c.in_ok-tx.ensures.nothing_taken;
-      two_spares = c.in_ok-tx.ensures.two_spares;
+      unused = c.in_ok-tx.ensures.unused;
     }
 
 pub loop-number-preserved : goal.loop-number-preserved
@@ -40,9 +38,7 @@ loop-number-preserved g c =
       end = rw (jobs, last_belt_snoc from before (job_of worker)) to;
       count = ap (λ (l : List Job). length l) jobs ∙ length-append before (job_of worker ∷ []) ∙ ap (λ (n : ℕ). n + 1) was.count;
       come = rw items (come_snoc g.G.Gas.rules c.loop-number.workers.items worker was.come made.come);
-      wide = made.wide;
-      nothing_taken = made.nothing_taken;
-      two_spares = made.two_spares;
+      unused = made.unused;
     }
 
 pub returns-clause-linked : goal.returns-clause-linked
@@ -70,9 +66,10 @@ returns-clause-own g c =
       feeder = record {
         fed =
             subst (λ (l : List RowModel). MayHaveFedInput gas c.args.input.now c.args.feeder l c.loop-number.last.taken) (sym c.in_ok-tx.ensures.nothing_put)
-            (subst (λ (l : List RowModel). MayHaveFedInput gas c.args.input.now c.args.feeder [] l) (sym c.loop-number.invariant.nothing_taken) c.requires.begun.fed);
-        spares = rw (c.in_ok-tx.ensures.nothing_put, c.loop-number.invariant.nothing_taken, c.requires.begun.spares) refl;
-        held = omega (arith, c.loop-number.invariant.two_spares);
+            (subst (λ (l : List RowModel). MayHaveFedInput gas c.args.input.now c.args.feeder [] l) (sym c.loop-number.invariant.unused.nothing_taken) c.requires.begun.fed);
+        spares = rw (c.in_ok-tx.ensures.nothing_put, c.loop-number.invariant.unused.nothing_taken, c.requires.begun.spares) refl;
+        held = omega (arith, c.loop-number.invariant.unused.two_spares);
+        room = omega (arith, c.loop-number.invariant.unused.two_places);
       };
       worker = (come_own gas c.take_own-own.result c.take_own-own.new.workers.items all).0;
     }

@@ -1,5 +1,5 @@
-use Rattle.std.proofs.Common.{◌≡◌, [], length, map}
-use Rattle.gas_pipe.specs.Inner.Worker.{job_of}
+use Rattle.std.proofs.Common.{◌≡◌, length, map}
+use Rattle.gas_pipe.specs.Inner.Worker.{job_of, IsUnused}
 use Rattle.gas_pipe.specs.Inner.Links.{Linked, last_belt, AllHaveCome}
 use Rattle.gas_pipe.proofs.line.make_line.Given as goal
 
@@ -9,7 +9,5 @@ invariant-loop-number g l = record {
   end : last_belt l.initial.last.belt (map job_of l.workers.items) ≡ l.last.belt;
   count : length (map job_of l.workers.items) ≡ l.number;
   come : AllHaveCome g.G.Gas.rules l.workers.items;
-  wide : l.last.belt.width ≡ l.fn.input.lattice.channel.width;
-  nothing_taken : l.last.taken ≡ [];
-  two_spares : l.last.held ≡ 2;
+  unused : IsUnused l.fn.input l.last;
 }

@@ -33,3 +33,4 @@ returns-clause-taken g c =
     (same_belt dirs s.width s.end.ring.end c.pop.new.self.ring.end c.pop.ensures.ring ∙ ap (λ r. r.belt) c.self.view_is)
     (taken ∙ ap (λ (r : Receiver). r.taken ++ c.exchange_words.new.self ∷ []) c.self.view_is)
     (omega (arith, c.in-Some.ensures.cases, held))
+    (c.pop-2.ensures.capacity ∙ ap (λ r. r.most) c.self.view_is)
