@@ -1,5 +1,5 @@
 -- The steps of a worker of a run, and what it has put in the end.
-use Rattle.std.proofs.Common.{◌≡◌, ℕ, suc, ◌+◌, ◌-◌, ◌*◌, ◌<◌, ◌≤◌, Option, None, Some, List, [], ◌∷◌, ◌++◌, ap, sym, subst, refl, ◌∙◌, length, length-append, append_assoc, append-nil, arith}
+use Rattle.std.proofs.Common.{◌≡◌, ℕ, suc, ◌+◌, ◌-◌, ◌*◌, ◌<◌, ◌≤◌, Option, None, Some, List, [], ◌∷◌, ◌++◌, ap, sym, refl, ◌∙◌, length, length-append, append_assoc, append-nil, arith}
 use Rattle.std.specs.Int.{div_ceil}
 use Rattle.std.specs.Option.{option_to_list}
 use Rattle.std.proofs.Math.Nat.{suc-mul, zero-mul}
@@ -7,13 +7,11 @@ use Rattle.gas_geom.specs.Gas.{Rules}
 use Rattle.gas_geom.specs.Channel.{ChannelModel}
 use Rattle.gas_rows.specs.Row.{RowModel}
 use Rattle.gas_belt.specs.Belt.{Sender, Receiver}
-use Rattle.gas_stage.specs.Stages.{owed_by, passes_from}
+use Rattle.gas_stage.specs.Stages.{owed_by}
 use Rattle.gas_stage.proofs.OwedBy.{owed_by-all}
 use Rattle.gas_pipe_members.specs.Ends.{MayGet, Sends}
 use Rattle.gas_pipe_members.specs.Worker.{WorkerModel, SameWorker, IsClosed, MayHaveDone, Does}
 use Rattle.gas_pipe_members.proofs.Workers.{closed_all, gave_few, gave_most}
-use Rattle.gas_pipe_model.specs.Plan.{PlanModel, before}
-use Rattle.gas_pipe_model.specs.Pass.{generations_of}
 use Rattle.gas_pipe_model.proofs.Circle.{owed_pass, owed_none, owed_high}
 use Rattle.gas_pipe.specs.Inner.Worker.{LineWorkerModel, Job, job_of, does_in, owes_until, HasSpares, HasCome, HasFinished}
 use Rattle.gas_pipe.proofs.Ends.{one_more, puts, lends, takes, gets, got_spare, sent}
@@ -170,17 +168,6 @@ module _ {gas : Rules} {w : LineWorkerModel} (was : HasCome gas w) (closed : IsC
     whole = whole_pass ∙ ap (λ (n : ℕ). n * w.worker.stages.channel.height) last;
     owes_is = owes_pass ∙ ap (λ (n : ℕ). owes_until gas (job_of w) n w.rx.taken) last;
   }
-
--- a pass opens in which the stages of worker k do what the model says
-pub opened : (gas : Rules) (v : WorkerModel) (first : ℕ) (plan : PlanModel) (pass k count a n : ℕ) → before plan k + count ≡ before plan (k + 1) →
-    passes_from a n (before plan (k + 1) - before plan (k + 1 - 1)) ≡ generations_of first plan pass (k + 1) → MayHaveDone gas v (passes_from a n count) [] [] →
-    MayHaveDone gas v (generations_of first plan pass (suc k)) [] []
-opened gas v first plan pass k count a n share does begun =
-    let on : k + 1 ≡ suc k = omega arith in
-    let same : k + 1 - 1 ≡ k = omega arith in
-    let counted : count ≡ before plan (k + 1) - before plan (k + 1 - 1) = rw same (omega (arith, share)) in
-    subst (λ (i : ℕ). MayHaveDone gas v (generations_of first plan pass i) [] []) on
-    (subst (λ (es : List (Option ℕ)). MayHaveDone gas v es [] []) does (subst (λ (i : ℕ). MayHaveDone gas v (passes_from a n i) [] []) counted begun))
 
 -- at the start
 pub begins : (gas : Rules) (w : LineWorkerModel) → w.pass ≡ 0 → MayHaveDone gas w.worker (does_in (job_of w) w.pass) [] [] → w.rx.taken ≡ [] → w.tx.put ≡ [] → HasSpares w →

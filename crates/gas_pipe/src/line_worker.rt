@@ -77,7 +77,7 @@ impl<'a, G: Gas> LineWorker<'a, G> {
     {
         let channel = input.lattice.channel();
         let mut worker = Worker::with_stages(alloc, channel, input.chirality, share.stages)?;
-        let (first, computing) = input.span.generations(0, share.number + 1);
+        let (first, computing) = input.span.generations(0, share.number);
         worker.begin_stages(first, computing);
         Ok(LineWorker {
             share,
@@ -104,7 +104,7 @@ impl<'a, G: Gas> LineWorker<'a, G> {
         }
         self.share.enter(gate);
         self.pass += 1;
-        let (first, computing) = self.span.generations(self.pass, self.share.number + 1);
+        let (first, computing) = self.span.generations(self.pass, self.share.number);
         self.worker.begin_stages(first, computing);
         true
     }

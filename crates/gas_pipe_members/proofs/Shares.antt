@@ -1,5 +1,5 @@
 -- How the stages of a plan are shared out to its workers, and what they compute in a pass.
-use Rattle.std.proofs.Common.{◌≡◌, ℕ, zero, suc, ◌+◌, ◌-◌, ◌*◌, ◌<◌, ◌≤◌, min, Bool, if◌then◌else◌, nat_lt, Option, Some, None, List, ◌∷◌, map, ap, ◌∙◌, sym, refl, arith, ⊎_elim}
+use Rattle.std.proofs.Common.{◌≡◌, ℕ, zero, suc, ◌+◌, ◌-◌, ◌*◌, ◌<◌, ◌≤◌, min, Bool, if◌then◌else◌, nat_lt, Option, Some, None, List, ◌∷◌, map, ap, ap₂, ◌∙◌, sym, refl, arith, ⊎_elim}
 use Rattle.std.proofs.lemmas.Bool.{cases_lt, lt-ltb, le-ltb}
 use Rattle.std.specs.List.{range_with_len}
 use Rattle.gas_stage.specs.Stages.{passes_from}
@@ -40,20 +40,23 @@ same_on f g a b (suc n) same =
     ap (λ (e : Option ℕ). e ∷ map f (range_with_len (a + 1) n)) (ap f none_a ∙ same 0 (omega arith) ∙ ap g none_b)
     ∙ ap (λ (l : List (Option ℕ)). g b ∷ l) (same_on f g (a + 1) (b + 1) n rest)
 
-pub same_passes : (first : ℕ) (plan : PlanModel) (n k : ℕ) →
-    passes_from (first + (plan.generations - (plan.generations - (n * plan.stages + before plan (k - 1)))))
-    (min (plan.generations - (n * plan.stages + before plan (k - 1))) (before plan k - before plan (k - 1))) (before plan k - before plan (k - 1))
-    ≡ generations_of first plan n k
-same_passes first plan n k =
+pub same_passes : (first : ℕ) (plan : PlanModel) (n k stages : ℕ) → before plan k + stages ≡ before plan (k + 1) →
+    passes_from (first + (plan.generations - (plan.generations - (n * plan.stages + before plan k)))) (min (plan.generations - (n * plan.stages + before plan k)) stages) stages
+    ≡ generations_of first plan n (suc k)
+same_passes first plan n k stages share =
     same_on (λ i. if nat_lt i (min (plan.generations - done) stages) then Some (first + (plan.generations - (plan.generations - done)) + i) else None)
-    (computes_from first plan n) 0 (before plan (k - 1) + 1) stages
+    (computes_from first plan n) 0 (before plan k + 1) stages
     (λ i low. same_step first plan.generations done stages (0 + i) (omega (arith, low)) ∙ ap (step first plan.generations) (at i))
+    ∙ ap₂ (λ b i. map (computes_from first plan n) (range_with_len (b + 1) i)) front count
   where
     done : ℕ
-    done = n * plan.stages + before plan (k - 1)
+    done = n * plan.stages + before plan k
 
-    stages : ℕ
-    stages = before plan k - before plan (k - 1)
-
-    at : (i : ℕ) → done + (0 + i) ≡ n * plan.stages + (before plan (k - 1) + 1 + i) - 1
+    at : (i : ℕ) → done + (0 + i) ≡ n * plan.stages + (before plan k + 1 + i) - 1
     at i = omega arith
+
+    front : before plan k ≡ before plan (suc k - 1)
+    front = ap (before plan) (let e : k ≡ suc k - 1 = omega arith in e)
+
+    count : stages ≡ before plan (suc k) - before plan (suc k - 1)
+    count = omega (arith, share, front, ap (before plan) (let e : k + 1 ≡ suc k = omega arith in e))

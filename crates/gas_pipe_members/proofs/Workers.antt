@@ -1,9 +1,9 @@
 -- What a worker has done, seen from its two lists.
-use Rattle.std.proofs.Common.{◌≡◌, Bool, true, false, ℕ, ◌+◌, ◌<◌, ◌≤◌, ◌++◌, ◌∷◌, Option, Some, None, IsSome, List, [], length, ap, ◌∙◌, sym, refl, append_assoc, append-nil, length-append, arith}
+use Rattle.std.proofs.Common.{◌≡◌, Bool, true, false, ℕ, ◌+◌, ◌<◌, ◌≤◌, ◌++◌, ◌∷◌, Option, Some, None, IsSome, List, [], length, ap, ◌∙◌, sym, refl, append_assoc, append-nil, length-append, subst, arith}
 use Rattle.std.specs.Option.{option_to_list}
 use Rattle.gas_geom.specs.Gas.{Rules}
 use Rattle.gas_geom.specs.Channel.{ChannelModel}
-use Rattle.gas_stage.specs.Stages.{MayAllHaveBeenFed, given_by}
+use Rattle.gas_stage.specs.Stages.{StagesModel, MayAllHaveBeenFed, given_by}
 use Rattle.gas_stage.proofs.OwedBy.{owed_by-no_more}
 use Rattle.gas_pipe_model.proofs.Prefixes.{prefix_length}
 use Rattle.gas_rows.specs.Row.{RowModel}
@@ -57,12 +57,12 @@ module _ (gas : Rules) (w : WorkerModel) (es : List (Option ℕ)) (took gave : L
       (given_by_prefix gas w.stages.channel w.stages.chirality flushed es took done.few) in
       omega (arith, before, ap (λ (l : List RowModel). length l) more, length-append gave (row ∷ []), ap (λ (l : List RowModel). length l) all)
 
-pub no_stray : (stray : Bool) (flushed n : ℕ) → (stray ≡ true → flushed < n) → flushed ≡ n → stray ≡ false
+no_stray : (stray : Bool) (flushed n : ℕ) → (stray ≡ true → flushed < n) → flushed ≡ n → stray ≡ false
 no_stray true flushed n in_pass all = absurd (omega (arith, in_pass refl, all))
 no_stray false flushed n in_pass all = refl
 
 -- a pass that begins
-pub begun : (gas : Rules) (w : WorkerModel) (es : List (Option ℕ)) → w.stray ≡ false → w.waiting ≡ None → w.stages.flushed ≡ 0 → 0 < length w.stages.stages →
+begun : (gas : Rules) (w : WorkerModel) (es : List (Option ℕ)) → w.stray ≡ false → w.waiting ≡ None → w.stages.flushed ≡ 0 → 0 < length w.stages.stages →
     MayAllHaveBeenFed gas w.stages es [] → MayHaveDone gas w es [] []
 begun gas w es no_stray none unflushed some fed = record {
   no_stray = no_stray;
@@ -71,6 +71,16 @@ begun gas w es no_stray none unflushed some fed = record {
   took_all = λ all. absurd (omega (arith, all, unflushed, some));
   put_returned = ap (λ (o : Option RowModel). option_to_list o) none ∙ sym (given_by_none gas w.stages.channel w.stages.chirality w.stages.flushed es);
 }
+
+-- its pass begins, once no pass is open
+pub begins : (gas : Rules) (w old : WorkerModel) (s : StagesModel) (es : List (Option ℕ)) → w ≡ old → IsClosed old →
+    (w.stray ≡ true → w.stages.flushed < length w.stages.stages) → 0 < length w.stages.stages → length s.stages ≡ length w.stages.stages →
+    s.flushed ≡ 0 → MayAllHaveBeenFed gas s es [] → MayHaveDone gas (record w { stages = s }) es [] []
+begins gas w old s es is closed stray_in_pass some count unflushed fed =
+    begun gas (record w { stages = s }) es
+    (no_stray w.stray w.stages.flushed (length w.stages.stages) stray_in_pass
+    (subst (λ (u : WorkerModel). u.stages.flushed ≡ length u.stages.stages) (sym is) closed.stages))
+    (ap (λ (u : WorkerModel). u.waiting) is ∙ closed.waiting) unflushed (omega (arith, count, some)) fed
 
 -- a row was fed
 pub accepted : (gas : Rules) (old new : WorkerModel) (row : RowModel) (es : List (Option ℕ)) (took gave : List RowModel) → MayHaveDone gas old es took gave →

@@ -1,10 +1,10 @@
 //! The plan of a run: the stages of its line, the capacity of a belt, and the generations to
 //! compute. Also what a run of a plan is given, and why it may end without a result.
 
-ghost use Rattle.std.specs.Prelude.{◌≡◌, ◌≤◌, ◌<◌, ◌+◌, ◌-◌, ◌*◌, ◌^◌, IfOk, IfErr, None, Some};
+ghost use Rattle.std.specs.Prelude.{◌≡◌, ◌≤◌, ◌<◌, ◌+◌, ◌-◌, ◌*◌, ◌^◌, ℕ, suc, IfOk, IfErr, None, Some};
 ghost use Rattle.std.specs.Int.{div_ceil};
 ghost use Rattle.gas_stage.specs.Stages.{passes_from};
-ghost use Rattle.gas_pipe_model.specs.Pass.{computes_from, generations_of};
+ghost use Rattle.gas_pipe_model.specs.Pass.{generations_of};
 ghost use Rattle.gas_pipe_model.specs.Plan.{before};
 ghost use Rattle.gas_pipe_members.specs.Plan.{plan_refusal, threads_refusal};
 ghost use Rattle.gas_pipe_members.specs.declared.plan.RunError.TheVariants.{Memory};
@@ -189,6 +189,7 @@ impl Plan {
         requires within { k ≤ self.threads }
         ensures value { result ≡ before self k }
         ensures few { result ≤ self.stages }
+        ensures most { k ≤ 64 }
     {
         let more = (k + self.stages % self.threads).saturating_sub(self.threads);
         k * (self.stages / self.threads) + more
@@ -213,36 +214,20 @@ pub struct Span {
 }
 
 impl Span {
-    /// The generation from which worker `who`, counted from 1, computes the step in a pass, counted
-    /// from 0. None if it hands rows on unchanged.
-    pub fn generation(&self, pass: u64, who: u32) -> Option<u64>
+    /// What the stages of a worker do in a pass, both counted from 0, if there is a worker for each
+    /// thread of the plan: the generation from which the first stage computes the step, and how many
+    /// stages compute. The others hand rows on unchanged.
+    pub fn generations(&self, pass: u64, number: u32) -> (u64, u32)
         requires pass { pass * self.now.plan.stages < self.now.plan.generations }
-        requires some { 1 ≤ who }
-        requires one_of { who ≤ self.now.plan.stages }
-        ensures value { result ≡ computes_from self.now.first self.now.plan pass who }
-    {
-        let before = pass * u64::from(self.plan.stages()) + u64::from(who - 1);
-        if before < self.plan.generations() {
-            Some(self.first + before)
-        } else {
-            None
-        }
-    }
-
-    /// What the stages of worker `who`, counted from 1, do in a pass, counted from 0, if there is a
-    /// worker for each thread of the plan: the generation from which the first stage computes the
-    /// step, and how many stages compute. The others hand rows on unchanged.
-    pub fn generations(&self, pass: u64, who: u32) -> (u64, u32)
-        requires pass { pass * self.now.plan.stages < self.now.plan.generations }
-        requires some { 1 ≤ who }
-        requires one_of { who ≤ self.now.plan.threads }
-        ensures passes { passes_from result.0 result.1
-            (before self.now.plan who - before self.now.plan (who - 1))
-            ≡ generations_of self.now.first self.now.plan pass who }
+        requires one_of { number < self.now.plan.threads }
+        ensures passes { (stages : ℕ) →
+            before self.now.plan number + stages ≡ before self.now.plan (number + 1) →
+            passes_from result.0 result.1 stages
+            ≡ generations_of self.now.first self.now.plan pass (suc number) }
         ensures room { result.0 + result.1 ≤ 2 ^ 64 }
     {
-        let in_front = self.plan.before(who - 1);
-        let stages = self.plan.before(who) - in_front;
+        let in_front = self.plan.before(number);
+        let stages = self.plan.before(number + 1) - in_front;
         let generations = self.plan.generations();
         let done = pass * u64::from(self.plan.stages()) + u64::from(in_front);
         let left = generations.saturating_sub(done);

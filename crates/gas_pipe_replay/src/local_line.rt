@@ -67,7 +67,8 @@ fn begin_workers<'a, G: Gas>(
     let mut workers = Vec::with_capacity(alloc, count as usize)?;
     for k in 0..count {
         let mut worker = Worker::new(alloc, input.lattice.channel(), input.chirality)?;
-        worker.begin(input.span.generation(0, k + 1));
+        let (first, computing) = input.span.generations(0, k);
+        worker.begin_stages(first, computing);
         workers.push(worker)?;
     }
     Ok(workers)

@@ -54,7 +54,7 @@ impl Line<'_> {
         let who = u32::try_from(k).ok()?;
         let pass = u64::from(put / self.height.max(1));
         if pass < self.span.plan.passes() && who < self.span.plan.threads() {
-            Some(self.span.generations(pass, who + 1))
+            Some(self.span.generations(pass, who))
         } else {
             None
         }

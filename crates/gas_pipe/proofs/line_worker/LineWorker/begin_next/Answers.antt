@@ -1,9 +1,9 @@
-use Rattle.std.proofs.Common.{◌≡◌, ◌+◌, ◌<◌, sym, subst, ◌∙◌, arith}
+use Rattle.std.proofs.Common.{◌≡◌, ◌+◌, ◌<◌, [], List, Option, ℕ, sym, subst, ◌∙◌, arith}
 use Rattle.std.specs.Int.{div_ceil}
-use Rattle.gas_pipe_members.specs.Worker.{IsClosed}
+use Rattle.gas_pipe_members.specs.Worker.{IsClosed, MayHaveDone}
 use Rattle.gas_pipe_model.proofs.Boundaries.{open_pass}
 use Rattle.gas_pipe.specs.Inner.Worker.{LineWorkerModel, HasCome}
-use Rattle.gas_pipe.proofs.Workers.{opens, opened, finishes}
+use Rattle.gas_pipe.proofs.Workers.{opens, finishes}
 use Rattle.gas_pipe.proofs.line_worker.LineWorker.begin_next.Goals as goal
 
 pub returns-then-self-passes-clause-over : goal.returns-then-self-passes-clause-over
@@ -13,11 +13,10 @@ returns-then-self-passes-clause-over g c _ =
 
 pub returns-clause-come : goal.returns-clause-come
 returns-clause-come g c =
-    let old = c.self.inside in
     let came = subst (λ (i : LineWorkerModel). HasCome g.G.Gas.rules i) (sym c.self.view_is) c.requires.come in
     let closed = subst (λ (i : LineWorkerModel). IsClosed i.worker) (sym c.self.view_is) c.requires.closed in
     opens came closed c.begin_stages.new.self c.begin_stages.ensures.same
-    (opened g.G.Gas.rules c.begin_stages.new.self old.span.first old.span.plan (old.pass + 1) old.share.number _ _ _ c.self.invariant.stages c.generations-first.ensures.passes c.begin_stages.ensures.nothing_done)
+    (subst (λ (es : List (Option ℕ)). MayHaveDone g.G.Gas.rules c.begin_stages.new.self es [] []) (c.generations-first.ensures.passes _ c.self.invariant.stages) c.begin_stages.ensures.nothing_done)
 
 pub generations-first-requires-clause-pass : goal.generations-first-requires-clause-pass
 generations-first-requires-clause-pass g c =

@@ -1,11 +1,12 @@
-use Rattle.std.proofs.Common.{rules, ◌≡◌, ◌+◌, ◌<◌, refl, ap, sym, subst, ◌∙◌, ℕ, List, length, arith}
+use Rattle.std.proofs.Common.{rules, ◌≡◌, ◌+◌, ◌<◌, [], refl, ap, sym, subst, ◌∙◌, ℕ, List, Option, length, arith}
 use Rattle.gas_rows.specs.Row.{RowModel}
 use Rattle.gas_pipe_model.specs.Plan.{before}
 use Rattle.gas_pipe_model.proofs.Boundaries.{some_passes}
 use Rattle.gas_pipe_model.specs.Pass.{RunInputModel}
 use Rattle.gas_belt.specs.Belt.{Receiver}
 use Rattle.gas_pipe.specs.Inner.Worker.{LineWorkerModel}
-use Rattle.gas_pipe.proofs.Workers.{begins, opened}
+use Rattle.gas_pipe_members.specs.Worker.{MayHaveDone}
+use Rattle.gas_pipe.proofs.Workers.{begins}
 use Rattle.gas_pipe.proofs.line_worker.LineWorker.new.Goals as goal
 
 pub returns-clause-come : goal.returns-clause-come
@@ -25,7 +26,7 @@ returns-clause-come g c =
     let share = subst (λ (i : RunInputModel). before i.plan number + c.args.share.stages ≡ before i.plan (number + 1)) (sym c.input.view_is) c.requires.stages in
     let all : before span.plan number + length c.in_ok-worker.worker.stages.stages ≡ before span.plan (number + 1) = ap (λ (n : ℕ). before span.plan number + n) c.in_ok-worker.ensures.count ∙ share in
     begins g.G.Gas.rules w refl
-    (opened g.G.Gas.rules c.begin_stages.new.self span.first span.plan 0 number _ _ _ all c.generations-first.ensures.passes c.begin_stages.ensures.nothing_done)
+    (subst (λ (es : List (Option ℕ)). MayHaveDone g.G.Gas.rules c.begin_stages.new.self es [] []) (c.generations-first.ensures.passes _ all) c.begin_stages.ensures.nothing_done)
     (ap (λ (r : Receiver). r.taken) fresh ∙ c.requires.unused.nothing_taken) c.requires.nothing_put
     (record {
       count =
