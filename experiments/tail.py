@@ -4,7 +4,7 @@ has a plateau.
 
 Shear waves decay between walls as in viscosity.py. A line is fitted to measured / channel over the
 logarithm of the rows. Formula: docs/DERIVATION.md#10. C(t) is what is left of a uniform stress at
-t, by the pair closure, and as in response.py where its error is below a third of it."""
+t, by the pair closure, and as in response.py until its error is a third of it."""
 import common
 import fhpgas
 import numpy as np
@@ -41,7 +41,7 @@ def draw(path, asked, ratios, line, pairs, plateau):
         stress = response.Stress(type(asked)(**vars(asked) | at_rest), asked.filling)
         runs = common.runs(stress.measured, asked)
         found = times * np.array(fhpgas.mean_and_error(4 * np.diff(runs)))
-        seen = found[1] < found[0] / 3
+        seen = np.logical_and.accumulate(found[1] < found[0] / 3)
         right.errorbar(times[seen], *found[:, seen], fmt="C0o", ms=3, label="measured")
         right.plot(times, times * pairs, "C2", lw=1, label="pairs")
         right.axhline(plateau, color="C1", lw=1, label="formula")
