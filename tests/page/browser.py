@@ -512,6 +512,12 @@ def message(room):
     page.drag("flip", (60, 60)), page.click("turn")
     check("with one turned it does not", page.wait("head.found !== null && head.found") > 1000)
     check("and cannot be read", abs(page.now(CONTRAST)) < 25, page.now(CONTRAST))
+    told = page.now("notes.length")
+    page.choose("change", scene="one particle turned, and its cone")
+    found = page.wait(
+        f"notes.at(-1).startsWith('One of') && head.generation === 0 && notes.slice({told})"
+    )
+    check("a new start says nothing of the cells before", len(found) == 1, found)
     page.go(f"{MESSAGE}&text=HELLO"), page.wait("notes.length")
     check(
         "a broken text is the default, and it is said",
