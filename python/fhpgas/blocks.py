@@ -44,23 +44,7 @@ class Value(Sized):
     def plot(
         self: Any, what: Quantity | Array | None = None, ax: Any = None, **options: Any
     ) -> Any:
-        """Shows the value on Axes of matplotlib.
-
-        Parameters
-        ----------
-        what, ax, **options
-            As in `fhpgas.plot`.
-
-        Returns
-        -------
-        matplotlib.image.AxesImage or matplotlib.axes.Axes
-
-        Examples
-        --------
-        >>> from matplotlib.figure import Figure
-        >>> start = fhpgas.draw_gas(0.2, size=fhpgas.Size(64, 36), seed=1)
-        >>> image = start.blocks().plot("east", Figure().subplots(), vmin=-1, vmax=1)
-        """
+        """Shows the value on Axes of matplotlib: see `fhpgas.plot`."""
         from . import pictures  # which is above this module
 
         return pictures.plot(self, what, ax, **options)

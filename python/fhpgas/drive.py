@@ -80,10 +80,8 @@ def driven(
         a sixth each by NW to NE and SW to SE. The slip at walls differs (`theory.slip`).
     seed : int or numpy.random.SeedSequence, optional
         Of the particles that are turned. It is another stream than `draw_gas` has of the same seed.
-    workers : int, optional
+    workers, progress : optional
         As in `Lattice.run`.
-    progress : bool, optional
-        Whether a bar of tqdm counts the points.
 
     Yields
     ------

@@ -22,7 +22,8 @@ class Row:
     cycles: tuple[tuple[int, ...], ...]  # a state turns left into the next, the last into the first
     in_print: tuple[str, ...]  # what it is called there, in small letters and without hyphens
     # Published formulas at a filling d (theory.py sums the viscosity over the collisions instead),
-    # and by chirality the fillings of theory.CORRELATED.
+    # and by chirality the fillings from .. to .. at which measured viscosities are `Correlated`, in
+    # shear waves of 128 and 256 rows.
     viscosity: Callable[[Any], Any] | None = None  # of "seeded"
     bulk_viscosity: Callable[[Any], Any] = lambda d: 0.0 * d
     correlated: dict[str, tuple[float, float]] = dataclasses.field(default_factory=dict)

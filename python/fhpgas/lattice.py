@@ -450,7 +450,7 @@ def run(
     generations : int
         0 to 1,000,000.
     stages, capacity : int, optional
-        The plan, as in `Lattice.run`.
+        The plan, by default as `plan` chooses.
 
     Returns
     -------

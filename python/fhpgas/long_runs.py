@@ -32,10 +32,8 @@ def every(
         Generations, 1 to 1,000,000.
     count : int
         How many steps.
-    workers : int, optional
+    workers, progress : optional
         As in `run`.
-    progress : bool, optional
-        Whether a bar of tqdm counts the steps.
 
     Yields
     ------
@@ -128,10 +126,8 @@ def long_run(
     kept : path
         The file of the lattice from which the run continues: .npz, also if it has no suffix, or
         .toml. It is tried first.
-    workers : int, optional
+    workers, progress : optional
         As in `run`.
-    progress : bool, optional
-        Whether a bar of tqdm counts the parts.
 
     Yields
     ------

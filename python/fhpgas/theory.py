@@ -34,20 +34,9 @@ def sound_speed(gas: AnyGas) -> float:
 def galilean_factor(gas: AnyGas, filling: Any, wind: float = 0.0) -> Any:
     """The factor g by which u.grad u is multiplied in the momentum equation.
 
-    It is (b/12) (1 - 2d) / (1 - d).
-
-    Parameters
-    ----------
-    gas : str or Gas
-    filling : float or array
-    wind : float, optional
-        -1 to 1. With a wind, for which these formulas are not exact, g is the factor by which the
-        wind carries a slow flow across it, from the equilibrium of Fermi and Dirac: momentum flux
-        xy / (density wind v).
-
-    Returns
-    -------
-    float or array
+    It is (b/12) (1 - 2d) / (1 - d). With a `wind` of -1 to 1, for which these formulas are not
+    exact, it is the factor by which the wind carries a slow flow across it, from the equilibrium of
+    Fermi and Dirac: momentum flux xy / (density wind v).
 
     Examples
     --------
@@ -107,16 +96,6 @@ def viscosity(gas: AnyGas, filling: Any, chirality: Chirality = "seeded") -> Any
     FHP-I (`fhp1`, seeded): 1 / (12 d (1-d)^3) - 1/8, with one chirality 1 / (16 d (1-d)^3) - 1/8.
     FHP-II (`fhp-rest`, seeded): 1 / (28 d (1-d)^3 (1 - 4d/7)) - 1/8.
 
-    Parameters
-    ----------
-    gas : str or Gas
-    filling : float or array
-    chirality : str, optional
-
-    Returns
-    -------
-    float or array
-
     Warns
     -----
     Correlated
@@ -137,25 +116,9 @@ class Correlated(UserWarning):
     tenth."""
 
 
-# the fillings from .. to .. at which they do so, in shear waves of 128 and 256 rows
-CORRELATED = {
-    (name, side): of for name, gas in GASES.items() for side, of in gas.correlated.items()
-}
-
-
 def is_correlated(gas: AnyGas, filling: Any, chirality: Chirality = "seeded") -> Any:
     """Whether a measured viscosity exceeds Boltzmann's by more than a tenth, by a table of
     measurements.
-
-    Parameters
-    ----------
-    gas : str or Gas
-    filling : float or array
-    chirality : str, optional
-
-    Returns
-    -------
-    bool or array of bool
 
     Examples
     --------
@@ -163,7 +126,7 @@ def is_correlated(gas: AnyGas, filling: Any, chirality: Chirality = "seeded") ->
     True
     """
     side = "left" if chirality_named(chirality) == "right" else chirality
-    low, high = CORRELATED[isotropic(gas).name, side]
+    low, high = GASES[isotropic(gas).name].correlated[side]
     return (low < checked(filling)) & (checked(filling) < high)
 
 
@@ -231,21 +194,10 @@ def running_viscosity(stress: Any) -> Floats:
 
 
 def odd_viscosity(gas: AnyGas, filling: Any, chirality: Chirality) -> Any:
-    """The kinematic odd viscosity, 0 if `chirality` is "seeded".
+    """The kinematic odd viscosity: negative for "left", the opposite for "right", 0 for "seeded".
 
     Its sign is that of the stress -p - density odd_viscosity (du/dy + dv/dx) across a row, yy, and
     -p + density odd_viscosity (du/dy + dv/dx) along it, xx.
-
-    Parameters
-    ----------
-    gas : str or Gas
-    filling : float or array
-    chirality : str
-
-    Returns
-    -------
-    float or array
-        Negative for "left", and the opposite for "right".
 
     Examples
     --------
@@ -264,8 +216,7 @@ def bulk_viscosity(gas: AnyGas, filling: Any) -> Any:
     >>> float(fhpgas.theory.bulk_viscosity("fhp1", 0.3))
     0.0
     """
-    d = checked(filling)
-    return GASES[isotropic(gas).name].bulk_viscosity(d)
+    return GASES[isotropic(gas).name].bulk_viscosity(checked(filling))
 
 
 def slip(gas: AnyGas, filling: Any, chirality: Chirality = "seeded", along: str = "rows") -> Any:
@@ -276,18 +227,8 @@ def slip(gas: AnyGas, filling: Any, chirality: Chirality = "seeded", along: str 
     directions that collisions undo is m = 6 d^2 (1-d)^2, and in `fhp-rest` 9 d (1-d)^4 more. This
     is the exact stationary solution of the linear Boltzmann equation (docs/DERIVATION.md#7-slip).
 
-    Parameters
-    ----------
-    gas : str or Gas
-    filling : float or array
-    chirality : str, optional
-    along : {"rows", "directions"}, optional
-        What drives the flow, as in `driven`. With "rows" K = 8 viscosity (1 / m - 2/3) - 1/4, with
-        "directions", a force along every c_i, K = 16/3 viscosity (1 / m - 1/2) - 1/4.
-
-    Returns
-    -------
-    float or array
+    What drives the flow acts `along` "rows" or "directions", as in `driven`: K is 8 viscosity
+    (1 / m - 2/3) - 1/4, or with a force along every c_i 16/3 viscosity (1 / m - 1/2) - 1/4.
 
     Examples
     --------
@@ -306,15 +247,6 @@ def noise(gas: AnyGas, filling: Any, cells: Any) -> Any:
     """The standard deviation of a mean velocity over some cells at equilibrium.
 
     It is sqrt((1 - d) c^2 / (b d cells)), with c the speed of sound.
-
-    Parameters
-    ----------
-    gas : str or Gas
-    filling, cells : float or array
-
-    Returns
-    -------
-    float or array
 
     Examples
     --------
@@ -366,10 +298,6 @@ def numbers(
     length : float
         In cells' widths, above 0.
     chirality : str, optional
-
-    Returns
-    -------
-    Numbers
 
     Examples
     --------
