@@ -11,7 +11,7 @@ from . import forms
 from .fault import Fault, library, real
 from .files import Path, read_bytes, write_whole
 from .fields import AnySize, Size, number_of, pair_checked, size_of
-from .gases import AnyGas, Array, Floats, Gas, Ints, array_of, gas_named, read_only
+from .gases import AnyGas, Array, Floats, Gas, Ints, Sums, array_of, gas_named, read_only
 from .limits import Quantity
 from .planes import Sized
 from .scenes import naming
@@ -133,10 +133,10 @@ class Blocks(Value):
     """
 
     PARTS = *SUMS, "gas", "block", "size", "generation", "members"
-    fluid: Array
-    particles: Array
-    px: Array
-    py: Array
+    fluid: Sums
+    particles: Sums
+    px: Sums
+    py: Sums
     gas: Gas
     block: tuple[int, int]
     size: Size
@@ -145,13 +145,16 @@ class Blocks(Value):
 
     def __post_init__(self) -> None:
         size, block = size_of(self.size), pair_checked(self.block, "a block")
-        sums = {name: read_only(array_of(name, getattr(self, name)).copy()) for name in SUMS}
-        number, shapes = number_of(size, block), [array.shape for array in sums.values()]
-        kinds = {array.dtype.kind for array in sums.values()}
+        given = {name: array_of(name, getattr(self, name)) for name in SUMS}
+        number, shapes = number_of(size, block), [array.shape for array in given.values()]
+        kinds = {array.dtype.kind for array in given.values()}
         if {*shapes} != {number.shape} or not kinds <= {*"iuf"}:
             has = f"{size} cells have {number} blocks of {block}"
             raise Fault(f"{has}, and the sums are arrays [row, column] of {shapes}")
-        self.__dict__.update(sums, gas=gas_named(self.gas), block=block, size=size)
+        for name, array in given.items():
+            kind = np.float64 if array.dtype.kind == "f" else np.int64
+            self.__dict__[name] = read_only(array.astype(kind))
+        self.__dict__.update(gas=gas_named(self.gas), block=block, size=size)
 
     def __repr__(self) -> str:
         cells = f"{number_of(self.size, self.block)} of {self.block} cells of {self.gas}"

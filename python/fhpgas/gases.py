@@ -16,6 +16,7 @@ from .limits import DRIVES
 Array: TypeAlias = NDArray[Any]
 Ints: TypeAlias = NDArray[np.int64]
 Floats: TypeAlias = NDArray[np.float64]
+Sums: TypeAlias = NDArray[np.int64 | np.float64]  # integers in `hpp`, of blocks if not smoothed
 Words: TypeAlias = NDArray[np.uint64]
 States: TypeAlias = NDArray[np.uint8]
 Mask: TypeAlias = NDArray[np.bool_]
@@ -97,8 +98,9 @@ class Gas:
         self.directions, self.row_distance = len(momenta), float(units[1])
         self.is_square = units[0] == units[1]
         self.shift = 0.0 if self.is_square else 0.5
-        self.momenta, self.units = (read_only(np.array(each)) for each in (momenta, units))
-        self.velocities = read_only(self.momenta * self.units)
+        self.momenta: Ints = read_only(np.array(momenta))
+        self.units: Sums = read_only(np.array(units))
+        self.velocities: Sums = read_only(np.asarray(self.momenta * self.units))
         (x, y), odd = self.momenta.T, np.arange(2)[:, None]
         right = x * units[0] + self.shift * (odd - (odd + y) % 2)
         steps = np.stack(np.broadcast_arrays(right, -y), -1)

@@ -14,7 +14,7 @@ from .fault import Fault, integer, seed_of
 from .fields import AnySize
 from .files import Path, is_npz
 from .gases import AnyGas, Array, Chirality, Gas, array_of, chirality_named, gas_named, mask
-from .gases import GASES, Ints, Mask, States, Words, read_only
+from .gases import GASES, Ints, Mask, States, Sums, Words, read_only
 from .planes import Cells, Walls, block_ones
 from .plans import planned
 from .program import call, program_path
@@ -195,7 +195,7 @@ class Lattice(Value):
         return self.walls.fluid
 
     @functools.cached_property
-    def momentum(self) -> Array:
+    def momentum(self) -> Sums:
         """The momentum [east, north] of all particles, in units of a particle of speed 1."""
         if engine.library():
             return read_only(engine.sums(self, *self.size)[2:, 0, 0] * self.gas.units)

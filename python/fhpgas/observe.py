@@ -6,14 +6,14 @@ from typing import Any, NamedTuple
 import numpy as np
 
 from .fault import Fault
-from .gases import AnyGas, Array, Floats, array_of, floats_of, gas_named, mask
+from .gases import AnyGas, Floats, Sums, array_of, floats_of, gas_named, mask
 from .lattice import Lattice
 
 FORCED = "upper", "lower", "solid"
 WINDOW = 5  # times of correlation up to which a correlation is summed
 
 
-def flux(gas: AnyGas, numbers: Any) -> Array:
+def flux(gas: AnyGas, numbers: Any) -> Sums:
     """The flux of momentum of particles: the sum of c c times their number, over the directions.
 
     Parameters
@@ -46,7 +46,7 @@ def flux(gas: AnyGas, numbers: Any) -> Array:
     return np.asarray(np.einsum("i...,ia,ib->ab...", given, c, c))
 
 
-def forces(lattice: Lattice, part: Any = None) -> dict[str, Array]:
+def forces(lattice: Lattice, part: Any = None) -> dict[str, Sums]:
     """The momentum that walls and obstacles received in the generation that ended with a lattice.
 
     A particle that moves away from a neighbouring wall or solid cell was just reflected by it, so

@@ -98,6 +98,18 @@ class Blocks(Package):
         table, why = wind((31, 16)).blocks(8, 8).text(), "of another gas, size or block"
         self.fault(why, fhpgas.read_table, table, "fhp1", (8, 8), Size(31, 15))
 
+    def test_sums_are_integers_unless_they_have_fractions(self):
+        for gas, kind in ("fhp1", np.float64), ("hpp", np.int64):
+            lattice = fhpgas.draw_gas(0.3, size=Size(16, 18), gas=gas, seed=2).run(1)
+            blocks = lattice.blocks(3, 9)
+            few = dataclasses.replace(blocks, px=blocks.px.astype(np.int16))
+            for found, wanted in (blocks, np.int64), (few, np.int64), (blocks.smooth(), np.float64):
+                sums = found.fluid, found.particles, found.px, found.py
+                self.assertEqual({each.dtype for each in sums}, {np.dtype(wanted)})
+            moved = [*fhpgas.forces(lattice).values(), fhpgas.flux(gas, lattice.counts())]
+            moved += [lattice.momentum, lattice.gas.velocities]
+            self.assertEqual({each.dtype for each in moved}, {np.dtype(kind)})
+
     def test_blocks_lie_where_their_cells_are(self):
         X, Y = fhpgas.positions(Size(5, 5))
         self.same((X[0], X[1] - 0.5, 2 * Y[::-1, 0] / ROOT3 - 0.5), [range(5)] * 3)
