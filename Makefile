@@ -82,7 +82,7 @@ $(engine) &: $(call files,gas_export) tools/inside.sh
 # By plain Rust. The launcher has it built if it is older than its sources or for a level that this machine lacks.
 plain := out/plain/fhpgas
 plain: ; @$(call alone); plain/build.sh out/plain
-crate: ; @plain/crate.py out/crate
+crate: ; @plain/workspace.py out/crate
 $(plain): crates.txt include/fhpgas.h $(shell find crates/*/src plain/* -name __pycache__ -prune -o -print) \
         $(if $(filter-out native x86-64-v2 $(own),$(shell cat out/plain/level 2> /dev/null)),again)
 	@$(call alone)

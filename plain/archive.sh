@@ -20,7 +20,8 @@ made=$room/$name
 plain/workspace.py "$made" ${2:+--proved "$2"}
 registry=$(sed -n 's/^directory = "\(.*\)"/\1/p' "$made/.cargo/config.toml")
 cp out/checked/workspace/Cargo.lock "$made" 2> /dev/null || env -C "$made" cargo generate-lockfile --quiet --offline
-cp LICENSE-MIT LICENSE-APACHE docs/NOTICES.md include/fhpgas.h "$made"
+(cd "$made" && cargo package --quiet --offline --allow-dirty --no-verify && cp target/package/*.crate "$folder" && rm -r target) # for crates.io
+cp docs/NOTICES.md include/fhpgas.h "$made"
 mkdir -p "$made/vendor" "$room/licences/rust"
 awk -F '"' '/^name/ { name = $2 } /^version/ { version = $2 } /^source/ { print name "-" version }' "$made/Cargo.lock" | while read -r crate; do
     cp -r "$registry/$crate" "$made/vendor"
@@ -33,18 +34,16 @@ sed -i 's/^directory = .*/directory = "vendor"/' "$made/.cargo/config.toml"
 cat > "$made/README" << END
 fhpgas $version by plain Rust. Needs Rust 1.85 or later and a linker.
 
-    cargo build --release --offline
+    cargo build --release --offline --package engine
 
 makes target/release/fhpgas, and the library for C of fhpgas.h. The sources are made from the proved ones of Luqembisho, ${2:-edited}, whose
 proofs a release build trusts. What this compiler makes of them is tested and not proved. A build without --release checks each index.
 vendor/ has the crates of others, each with its licence (NOTICES.md).
 END
 tar -C "$room" -czf "$folder/$name.tar.gz" "$name"
-plain/crate.py "$room/crate"
-(cd "$room/crate" && cargo package --quiet --offline --allow-dirty --no-verify && cp target/package/*.crate "$folder") # for crates.io
 
 # build LEVEL WORDS..: from the archive alone, in release/ or in release/ of a target
-build() { env -C "$made" RUSTFLAGS="-Ctarget-cpu=$1" cargo build --release --offline --locked --quiet "${@:2}"; }
+build() { env -C "$made" RUSTFLAGS="-Ctarget-cpu=$1" cargo build --release --offline --locked --quiet --package engine "${@:2}"; }
 
 # hand_out MACHINE RUSTC RELEASE LIBRARY..: the program, and a wheel with it and the libraries, and with the notices of that Rust's library
 hand_out() {
@@ -60,7 +59,7 @@ hand_out() {
 cd "$room"
 rm -r "$made"
 tar -xzf "$folder/$name.tar.gz"
-build x86-64-v3 -p engine # the levels of processors that the package knows
+build x86-64-v3 --lib # the levels of processors that the package knows
 cp "$made/target/release/libfhpgas.so" "$room/libfhpgas-x86-64-v3.so"
 build x86-64-v2
 cp "$made/target/release/libfhpgas.so" "$room/libfhpgas-x86-64-v2.so"

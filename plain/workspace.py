@@ -1,20 +1,21 @@
 #!/usr/bin/env python3
-"""Makes a workspace for cargo from the crates' sources, without the kit. Needs Python alone.
+"""Makes the crate fhpgas from the crates' sources, without the kit. Needs Python alone.
 
-    plain/workspace.py FOLDER            a build of it looks at every index
-    plain/workspace.py FOLDER --proved TEXT
-                                         a release build of program and library trusts the proofs
-                                         of the text of this name (--no-default-features: none)
+    plain/workspace.py FOLDER               the crate, which looks at every index
+    plain/workspace.py FOLDER --proved TEXT a release build of the member `engine` trusts the proofs
+                                            of the text of this name
 
-Then `cargo build --release` in the folder builds the program and the library for C. If Debian's
-packages of crates are installed, it takes these, and no network (`--offline`)."""
+The crate is a front, below it the sources as private modules, and the program as a bin: `cargo test`,
+`cargo package` and `cargo install --path` work as for any. Two more packages have the same modules:
+`engine` builds the program and the library for C, and `checks` has the tests of the sources. If
+Debian's packages of crates are installed, cargo takes these, and no network (`--offline`)."""
 
 from __future__ import annotations
 
 import argparse
+import json
 import pathlib
 import re
-import shutil
 import sys
 
 import strip
@@ -22,41 +23,81 @@ import strip
 ROOT = pathlib.Path(__file__).resolve().parents[1]
 DEBIAN = pathlib.Path("/usr/share/cargo/registry")
 LEFT_OUT = {"probes", "example_columns"}
-# The crates that are taken as they are, with their features, and the ones that the shim stands for.
-REAL = {
-    "arrayvec": '"0.7"',
-    "crossbeam_utils": '{ package = "crossbeam-utils", version = "0.8" }',
-    "rand_chacha": '{ version = "0.3", default-features = false }',
-    "rand_pcg": '"0.3"',
-    "thiserror": '"1"',
-}
-SHIMMED = {"clap", "core", "rand_core", "rtrb", "toml"}
-SHIM = """\
-rand_core = {{ version = "0.6", default-features = false }}
-clap = {{ version = "4", default-features = false, features = [{clap}], optional = true }}
-toml = {{ version = "0.5", optional = true }}
-
-[features]
-std = ["clap", "toml"]
-trusting = []
+SHIMMED = "clap", "rand_core", "rtrb", "toml"  # crates whose names the shim has
+ALLOWED = "#[allow(warnings, clippy::all, unsafe_code)] "
+MAIN = "#![cfg_attr(unix, no_main)] #![allow(warnings, clippy::all)] "
+# A call for C as strip.py writes it, before the function that it calls.
+CALL_FOR_C = re.compile(r"^#\[unsafe\(export_name.*? \} \} (?=pub fn )", re.M)
+PACKAGE = """\
+[package]
+name = "{name}"
+version = "{version}"
+edition = "2024"
+rust-version = "1.85"
+license = "MIT OR Apache-2.0"
 """
-# Program and library are taken as the proofs say: nobody calls what is inside of them.
-TRUSTING = """\
-
-[features]
-default = [{default}]
-trusting = ["shim/trusting"]
+BIN = """
+[[bin]]
+name = "fhpgas"
+path = "{place}src/main.rs"
+required-features = ["program"]
+doc = false
+test = false
 """
-PROGRAM = '[[bin]]\nname = "fhpgas"\npath = "src/main.rs"\ntest = false\n\n'
-LIBRARY = '[lib]\nname = "fhpgas"\ncrate-type = ["cdylib"]\ndoc = false\n\n'
-CLAP = '"std", "help", "usage", "error-context", "suggestions"'
+LIBRARY = """
+[lib]
+name = "fhpgas"
+path = "lib.rs"
+crate-type = ["cdylib"]
+doc = false
+test = false
+"""
 # Rust's own ChaCha chooses the best instructions as it runs, where there is a system.
-ENGINE = """\
-shim = { path = "../shim" }
-gas_export = { path = "../gas_export" }
+PARTS = """
+[features]
+default = ["program"{more}]
+# The program `fhpgas`, which reads scenes. A program that only calls this library does without.
+program = [{program}]
+# Leaves out the test of each index, because it is proved in the sources that none is out of bounds.
+trusting = []
+
+[dependencies]
+rand_chacha = {{ version = "0.3", default-features = false }}
+rand_core = {{ version = "0.6", default-features = false }}
+arrayvec = {{ version = "0.7", optional = true }}
+clap = {{ version = "4", default-features = false, features = [{clap}], optional = true }}
+crossbeam-utils = {{ version = "0.8", optional = true }}
+thiserror = {{ version = "1", optional = true }}
+toml = {{ version = "0.5", optional = true }}
 
 [target.'cfg(not(target_arch = "wasm32"))'.dependencies]
 rand_chacha = "0.3"
+"""
+OF_PROGRAM = "arrayvec", "clap", "crossbeam-utils", "thiserror", "toml"
+OF_CLAP = "std", "help", "usage", "error-context", "suggestions"
+FOR_INDEXES = """\
+description = "Bit-exact lattice gases: FHP-I, FHP with rest particles, and HPP"
+readme = "README.md"
+keywords = ["lattice-gas", "cellular-automata", "fluid", "simulation", "physics"]
+categories = ["science", "simulation"]
+"""
+WORKSPACE = """
+[workspace]
+members = ["checks", "engine"]
+
+[profile.dev]
+opt-level = 1
+debug = "line-tables-only"
+
+[profile.dev.package]
+"*".opt-level = 0
+checks.opt-level = 3
+rand_chacha.opt-level = 3
+ppv-lite86.opt-level = 3
+
+[profile.release]
+panic = "abort"
+codegen-units = 1
 """
 # No program loads a library of another interface.
 BUILD = """\
@@ -65,39 +106,6 @@ fn main() {{
         println!("cargo:rustc-cdylib-link-arg=-Wl,-soname,libfhpgas.so.{interface}");
     }}
 }}
-"""
-WORKSPACE = """\
-[workspace]
-resolver = "2"
-members = [{members}]
-default-members = ["fhpgas", "engine"]
-
-[workspace.lints.rust]
-unused = "allow"
-
-[profile.dev]
-opt-level = 1
-debug = "line-tables-only"
-
-[profile.dev.package."*"]
-opt-level = 0
-
-[profile.dev.package.tests_belt]
-opt-level = 3
-
-[profile.dev.package.tests_whole]
-opt-level = 3
-
-[profile.dev.package.rand_chacha]
-opt-level = 3
-
-[profile.dev.package.ppv-lite86]
-opt-level = 3
-
-[profile.release]
-panic = "abort"
-lto = "fat"
-codegen-units = 1
 """
 CONFIG = """\
 [source.crates-io]
@@ -121,12 +129,9 @@ def below(name: str, uses: dict[str, list[str]]) -> set[str]:
 
 
 def written(file: str, pattern: str) -> str:
-    """A number that a file of the sources has."""
-    return re.search(pattern, (ROOT / file).read_text())[1]
-
-
-def version() -> str:
-    return written("crates/gas_tool_cli/src/help.rt", r'VERSION: &str = "([0-9.]+)')
+    """What a file of the sources has, nothing if it has it not."""
+    found = re.search(pattern, (ROOT / file).read_text(), re.M)
+    return found[1] if found else ""
 
 
 def write(path: pathlib.Path, text: str) -> None:
@@ -136,68 +141,91 @@ def write(path: pathlib.Path, text: str) -> None:
         path.write_text(text)
 
 
-def write_manifest(folder: pathlib.Path, text: str, kind: str = "", about: str = "") -> None:
-    package = f'name = "{folder.name}"\nversion = "{version()}"\nedition = "2024"\n'
-    package += 'license = "MIT OR Apache-2.0"\n' + (f'description = "{about}"\n' if about else "")
-    lints = "[lints]\nworkspace = true\n"
-    write(folder / "Cargo.toml", f"[package]\n{package}\n{kind}{lints}\n[dependencies]\n{text}")
+def inside(text: str, home: str, modules: dict[str, str]) -> str:
+    """The text of a module of one crate, from a file of the crate `home` or of the program: paths
+    begin with modules of this crate where they began with crates."""
+    tokens = [found[0] for found in strip.TOKEN.finditer(text)]
+    for i, token in enumerate(tokens[:-2]):
+        begins = tokens[i + 1 : i + 3] == [":", ":"] and tokens[i - 1 : i] != [":"]
+        if begins and token == "crate" and home:
+            tokens[i] = f"crate::{home}"
+        elif begins and token in modules and tokens[i - 1 : i] != ["."]:
+            tokens[i] = modules[token]
+    return re.sub(r"crate::gas_scene::(?=with_lattice\b)", "crate::", "".join(tokens))
 
 
-def dependencies(name: str, uses: dict[str, list[str]], is_bare: bool) -> str:
-    """The lines of a manifest for what a crate uses."""
-    features = "" if is_bare else ', features = ["std"]'
-    lines = [f'shim = {{ path = "../shim"{features} }}']
-    for used in uses[name]:
-        if used in uses:
-            lines.append(f'{used} = {{ path = "../{used}" }}')
-        elif used not in SHIMMED:
-            lines.append(f"{used} = {REAL[used]}")
-    return "\n".join(lines) + "\n"
+def declared(names: list[str], place: str = "") -> str:
+    """The declarations of modules, which lie in another package if a place is given."""
+    path = f'#[path = "{place}{{name}}/mod.rs"] ' if place else ""
+    modules = (path.format(name=name) + f"{ALLOWED}mod {name}; " for name in names)
+    return "extern crate alloc as heap; " + "".join(modules)
 
 
-def write_sources(name: str, to: pathlib.Path, is_bare: bool) -> None:
-    """The plain sources of a crate. The root has the attribute that its kind needs."""
-    sources = ROOT / "crates" / name / "src"
+def write_modules(name: str, to: pathlib.Path, modules: dict[str, str], attribute: str) -> str:
+    """Writes the plain sources of a crate as a module, or of the program, whose file gets the
+    attribute. Returns the calls for C."""
+    sources, calls = ROOT / "crates" / name / "src", list[str]()
     for path in sorted(sources.rglob("*.rt")):
-        attribute = ""
-        if path.name == "main.rt":
-            attribute = "#![cfg_attr(unix, no_main)] "
-        elif path == sources / "lib.rt" and is_bare:
-            attribute = "#![no_std] "
         try:
-            text = strip.plain(path.read_text(), attribute)
+            text = strip.plain(path.read_text(), attribute * (path.name == "main.rt"))
         except strip.NotPlain as fault:
             sys.exit(f"{path.relative_to(ROOT)}: {fault}")
-        write(to / "src" / path.relative_to(sources).with_suffix(".rs"), text)
+        place = path.relative_to(sources).with_suffix(".rs")
+        home = "" if name == "fhpgas" else name
+        made = inside(CALL_FOR_C.sub("", text), home, modules)
+        write(to / home / ("mod.rs" if str(place) == "lib.rs" else place), made)
+        calls += [inside(call, home, modules) for call in CALL_FOR_C.findall(text)]
+    return "\n".join(calls)
 
 
-def trusting(proved: str | None) -> str:
-    return TRUSTING.format(default='"trusting"' if proved else "")
-
-
-def write_shim(folder: pathlib.Path, proved: str | None) -> None:
-    about = f"plain Rust, trusts the proofs of {proved}, not proved" if proved else "plain Rust"
-    write_manifest(folder / "shim", SHIM.format(clap=CLAP), about=about)
-    write_manifest(folder / "engine", ENGINE + trusting(proved), LIBRARY)
+def write_packages(folder: pathlib.Path, proved: str | None) -> None:
+    """The manifests, the licences and README of the crate."""
+    names = {"program": ", ".join(f'"dep:{name}"' for name in OF_PROGRAM)}
+    names["clap"] = ", ".join(f'"{name}"' for name in OF_CLAP)
+    own, address = PARTS.format(more="", **names), written(
+        "CITATION.cff", "^repository-code: (.+)$"
+    )
+    about = FOR_INDEXES + (f"repository = {json.dumps(address)}\n" if address else "")
+    trusting = PARTS.format(more=', "trusting"' if proved else "", **names)
+    manifests = {
+        "fhpgas": about + BIN.format(place="") + own + WORKSPACE,
+        "engine": BIN.format(place="../") + LIBRARY + trusting,
+        "checks": own + '\n[dev-dependencies]\nrand_pcg = "0.3"\n',
+    }
+    for name, text in manifests.items():
+        head = PACKAGE.format(name=name, version=written("CITATION.cff", "^version: (.+)$"))
+        write(folder / ("" if name == "fhpgas" else name) / "Cargo.toml", head + text)
+    for name in "LICENSE-MIT", "LICENSE-APACHE":
+        write(folder / name, (ROOT / name).read_text())
     interface = written("include/fhpgas.h", r"FHPGAS_INTERFACE (\d+)")
     write(folder / "engine/build.rs", BUILD.format(interface=interface))
-    for name in "shim", "engine":
-        shutil.copytree(ROOT / "plain" / name / "src", folder / name / "src", dirs_exist_ok=True)
+    said = re.findall(r"^//! ?(.*)", (ROOT / "plain/front.rs").read_text(), re.M)
+    write(folder / "README.md", "\n".join(["# fhpgas\n", *said, ""]))
 
 
-def make(folder: pathlib.Path, proved: str | None, registry: pathlib.Path = DEBIAN) -> None:
+def make(folder: pathlib.Path, proved: str | None = None, registry: pathlib.Path = DEBIAN) -> None:
     uses = crates()
-    bare = below("gas_export", uses)
+    tests = [name for name in uses if name.startswith("tests_")]
+    library = ["shim", *sorted(below("gas_export", uses) & uses.keys())]
+    program = ["shim", *(name for name in uses if name not in (*tests, "fhpgas"))]
+    modules = {name: f"crate::{name}" for name in ("shim", *uses)}
+    modules |= {name: f"crate::shim::{name}" for name in SHIMMED}
+    calls = ""
     for name in uses:
-        text = dependencies(name, uses, name in bare)
-        if name == "fhpgas":
-            write_manifest(folder / name, text + trusting(proved), PROGRAM)
-        else:
-            write_manifest(folder / name, text)
-        write_sources(name, folder / name, name in bare)
-    write_shim(folder, proved)
-    members = ", ".join(f'"{name}"' for name in ["shim", "engine", *uses])
-    write(folder / "Cargo.toml", WORKSPACE.format(members=members))
+        to = folder / ("checks/src" if name in tests else "src")
+        calls += write_modules(name, to, modules, MAIN + declared(program))
+    trusted = proved or f"fhpgas {written('CITATION.cff', '^version: (.+)$')}"
+    for path in sorted((ROOT / "plain/shim/src").glob("*.rs")):
+        write(folder / "src/shim" / path.name, path.read_text().replace("PROVED", trusted))
+    roots = {"front.rs": "src/lib.rs", "engine.rs": "engine/lib.rs"}
+    for name, place in roots.items():
+        known = declared(library, "" if name == "front.rs" else "../src/")
+        text = (ROOT / "plain" / name).read_text().replace("// modules", known)
+        write(folder / place, text.replace("// calls", calls))
+    checks = declared(program, "../../src/") + "".join(f"mod {name}; " for name in tests)
+    write(folder / "checks/src/lib.rs", f"#![cfg(test)] #![allow(warnings)] {checks}\n")
+    write(folder / "tests/front.rs", (ROOT / "tests/plain/front.rs").read_text())
+    write_packages(folder, proved)
     if any(registry.glob("clap-*")):
         write(folder / ".cargo/config.toml", CONFIG.format(registry=registry))
 

@@ -4,7 +4,7 @@
 . "$(dirname "$0")/../lib/try.sh"
 program=${FHPGAS:-out/checked/fhpgas}
 crate=$PWD/out/crate
-plain/crate.py "$crate" || exit 1
+plain/workspace.py "$crate" || exit 1
 offline=$([ ! -e "$crate/.cargo" ] || echo --offline)
 # cargo_in FOLDER WORDS..: silent unless it fails
 cargo_in() { (cd "$1" && cargo "$2" --quiet ${offline:+"$offline"} "${@:3}") > "$room/told" 2>&1 || { cat "$room/told" && false; }; }

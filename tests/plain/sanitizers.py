@@ -62,7 +62,7 @@ class Build:
         return run("cargo", *words, cwd=self.folder, env=self.environment)
 
     def program(self, *profile: str) -> pathlib.Path:
-        built = self.cargo("build", "--package=fhpgas", *profile)
+        built = self.cargo("build", "--package=engine", "--bin=fhpgas", *profile)
         if built.returncode != 0:
             needs.stop(built.stderr)
         return self.made / ("release" if profile else "debug") / "fhpgas"
@@ -143,10 +143,10 @@ class Sanitized(unittest.TestCase):
         build = sanitized("thread", OUT / "workspace")
         self.run_plans(build)
         with self.subTest("the line's tests"):
-            crates = "--package=tests_belt", "--package=tests_pipe"
             one_thread = "--skip=two_to_the_26"  # a loop of minutes, in which nothing can race
-            done = build.cargo("test", *crates, "--lib", "--no-fail-fast", "--", one_thread)
-            self.assertEqual(done.stdout.count("test result: ok."), 2, done.stderr)
+            named = "tests_belt", "tests_pipe", one_thread
+            done = build.cargo("test", "--package=checks", "--lib", "--no-fail-fast", "--", *named)
+            self.assertEqual(done.stdout.count("test result: ok."), 1, done.stderr)
             self.assertEqual(races(done.stderr), [])
         self.assertEqual(self.ring(build), [])
         for order, end in itertools.product(ORDERS, ("PUSHES", "!PUSHES")):

@@ -16,7 +16,7 @@ impl core::fmt::Display for AllocError {
 
 impl core::error::Error for AllocError {}
 
-#[cfg(feature = "std")]
+#[cfg(feature = "program")]
 impl From<AllocError> for std::io::Error {
     fn from(_: AllocError) -> Self { std::io::ErrorKind::OutOfMemory.into() }
 }

@@ -1,7 +1,7 @@
 //! The names of the kit's `clap` over the real one, which wants texts that live for ever: they are
 //! copied, once per run.
-use crate::alloc::{AllocError, Global};
-use crate::memory::String as Text;
+use super::alloc::{AllocError, Global};
+use super::memory::String as Text;
 use ::clap as real;
 use std::borrow::ToOwned;
 use std::boxed::Box;
@@ -10,7 +10,7 @@ use std::ops::{RangeFrom, RangeInclusive};
 use std::string::ToString;
 use std::vec::Vec;
 
-pub use crate::macros::value_parser;
+pub(crate) use super::macros::value_parser;
 pub use builder::ValueParser;
 pub use real::ArgAction;
 
@@ -90,7 +90,7 @@ impl<'a> Command<'a> {
 /// The number of a version, with what this build is instead of the kit in brackets.
 fn version_of_build(text: &str) -> std::string::String {
     let number = text.split(" (").next().unwrap_or(text);
-    std::format!("{number} ({})", crate::BUILD.trim_end_matches('\0'))
+    std::format!("{number} ({})", super::BUILD.trim_end_matches('\0'))
 }
 
 #[repr(transparent)]

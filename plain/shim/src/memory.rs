@@ -1,5 +1,5 @@
 //! Lists, texts and queues of Rust whose growth can be refused.
-use crate::alloc::{AllocError, Global};
+use super::alloc::{AllocError, Global};
 use core::fmt::{self, Debug, Display};
 use core::ops::{Deref, DerefMut};
 use heap::collections::VecDeque as Queue;
@@ -132,7 +132,7 @@ impl fmt::Write for String {
     }
 }
 
-#[cfg(feature = "std")]
+#[cfg(feature = "program")]
 impl std::io::Write for Vec<u8> {
     fn write(&mut self, bytes: &[u8]) -> std::io::Result<usize> {
         self.extend_from_slice(bytes)?;

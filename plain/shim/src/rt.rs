@@ -1,5 +1,5 @@
 //! The runtime: who holds it may read, print, wait, and look at files and the clock.
-use crate::alloc::Global;
+use super::alloc::Global;
 use std::fmt::Arguments;
 use std::io::{self, Read, Write};
 

@@ -1,6 +1,6 @@
 //! A ring from one thread to one other, with the names of `rtrb` that the sources use. Debian has
 //! no package of the real one.
-use crate::alloc::{AllocError, Global};
+use super::alloc::{AllocError, Global};
 use std::boxed::Box;
 use std::cell::UnsafeCell;
 use std::mem::MaybeUninit;

@@ -37,84 +37,55 @@ pub mod prelude {
 
 // The vectors of a processor, because compilers take arrays of words apart where two ways join. SAFETY: a
 // processor of the target has their instructions.
+macro_rules! vectors {
+    ($type:ty, $each:literal, $($name:ident: $call:path),*; $by:ident: $($shift:ident: $moved:path, $count:expr),*) => {
+        pub type Vector = $type;
+        pub const EACH: usize = $each;
+        $(#[inline(always)]
+        pub fn $name(a: Vector, b: Vector) -> Vector { unsafe { $call(a, b) } })*
+        $(#[inline(always)]
+        pub fn $shift(a: Vector, $by: u32) -> Vector { unsafe { $moved(a, $count) } })*
+    };
+}
 #[cfg(target_feature = "avx2")]
 mod vector {
     use core::arch::x86_64::*;
-    pub type Vector = __m256i;
-    pub const EACH: usize = 4;
-    #[inline(always)]
-    pub fn and(a: Vector, b: Vector) -> Vector { unsafe { _mm256_and_si256(a, b) } }
-    #[inline(always)]
-    pub fn or(a: Vector, b: Vector) -> Vector { unsafe { _mm256_or_si256(a, b) } }
-    #[inline(always)]
-    pub fn xor(a: Vector, b: Vector) -> Vector { unsafe { _mm256_xor_si256(a, b) } }
-    #[inline(always)]
-    pub fn shl(a: Vector, by: u32) -> Vector { unsafe { _mm256_sll_epi64(a, _mm_cvtsi32_si128(by as i32)) } }
-    #[inline(always)]
-    pub fn shr(a: Vector, by: u32) -> Vector { unsafe { _mm256_srl_epi64(a, _mm_cvtsi32_si128(by as i32)) } }
+    vectors! {
+        __m256i, 4, and: _mm256_and_si256, or: _mm256_or_si256, xor: _mm256_xor_si256;
+        by: shl: _mm256_sll_epi64, _mm_cvtsi32_si128(by as i32), shr: _mm256_srl_epi64, _mm_cvtsi32_si128(by as i32)
+    }
 }
 #[cfg(all(target_arch = "x86_64", not(target_feature = "avx2")))]
 mod vector {
     use core::arch::x86_64::*;
-    pub type Vector = __m128i;
-    pub const EACH: usize = 2;
-    #[inline(always)]
-    pub fn and(a: Vector, b: Vector) -> Vector { unsafe { _mm_and_si128(a, b) } }
-    #[inline(always)]
-    pub fn or(a: Vector, b: Vector) -> Vector { unsafe { _mm_or_si128(a, b) } }
-    #[inline(always)]
-    pub fn xor(a: Vector, b: Vector) -> Vector { unsafe { _mm_xor_si128(a, b) } }
-    #[inline(always)]
-    pub fn shl(a: Vector, by: u32) -> Vector { unsafe { _mm_sll_epi64(a, _mm_cvtsi32_si128(by as i32)) } }
-    #[inline(always)]
-    pub fn shr(a: Vector, by: u32) -> Vector { unsafe { _mm_srl_epi64(a, _mm_cvtsi32_si128(by as i32)) } }
+    vectors! {
+        __m128i, 2, and: _mm_and_si128, or: _mm_or_si128, xor: _mm_xor_si128;
+        by: shl: _mm_sll_epi64, _mm_cvtsi32_si128(by as i32), shr: _mm_srl_epi64, _mm_cvtsi32_si128(by as i32)
+    }
 }
 #[cfg(target_arch = "aarch64")]
 mod vector {
     use core::arch::aarch64::*;
-    pub type Vector = uint64x2_t;
-    pub const EACH: usize = 2;
-    #[inline(always)]
-    pub fn and(a: Vector, b: Vector) -> Vector { unsafe { vandq_u64(a, b) } }
-    #[inline(always)]
-    pub fn or(a: Vector, b: Vector) -> Vector { unsafe { vorrq_u64(a, b) } }
-    #[inline(always)]
-    pub fn xor(a: Vector, b: Vector) -> Vector { unsafe { veorq_u64(a, b) } }
-    #[inline(always)]
-    pub fn shl(a: Vector, by: u32) -> Vector { unsafe { vshlq_u64(a, vdupq_n_s64(i64::from(by))) } }
-    #[inline(always)]
-    pub fn shr(a: Vector, by: u32) -> Vector { unsafe { vshlq_u64(a, vdupq_n_s64(-i64::from(by))) } }
+    vectors! {
+        uint64x2_t, 2, and: vandq_u64, or: vorrq_u64, xor: veorq_u64;
+        by: shl: vshlq_u64, vdupq_n_s64(i64::from(by)), shr: vshlq_u64, vdupq_n_s64(-i64::from(by))
+    }
 }
 #[cfg(target_arch = "wasm32")]
 mod vector {
     use core::arch::wasm32::*;
-    pub type Vector = v128;
-    pub const EACH: usize = 2;
-    #[inline(always)]
-    pub fn and(a: Vector, b: Vector) -> Vector { unsafe { v128_and(a, b) } }
-    #[inline(always)]
-    pub fn or(a: Vector, b: Vector) -> Vector { unsafe { v128_or(a, b) } }
-    #[inline(always)]
-    pub fn xor(a: Vector, b: Vector) -> Vector { unsafe { v128_xor(a, b) } }
-    #[inline(always)]
-    pub fn shl(a: Vector, by: u32) -> Vector { unsafe { u64x2_shl(a, by) } }
-    #[inline(always)]
-    pub fn shr(a: Vector, by: u32) -> Vector { unsafe { u64x2_shr(a, by) } }
+    vectors! {
+        v128, 2, and: v128_and, or: v128_or, xor: v128_xor;
+        by: shl: u64x2_shl, by, shr: u64x2_shr, by
+    }
 }
 #[cfg(not(any(target_arch = "x86_64", target_arch = "aarch64", target_arch = "wasm32")))]
 mod vector {
-    pub type Vector = u64;
-    pub const EACH: usize = 1;
-    #[inline(always)]
-    pub fn and(a: Vector, b: Vector) -> Vector { a & b }
-    #[inline(always)]
-    pub fn or(a: Vector, b: Vector) -> Vector { a | b }
-    #[inline(always)]
-    pub fn xor(a: Vector, b: Vector) -> Vector { a ^ b }
-    #[inline(always)]
-    pub fn shl(a: Vector, by: u32) -> Vector { a << by }
-    #[inline(always)]
-    pub fn shr(a: Vector, by: u32) -> Vector { a >> by }
+    use core::ops::{BitAnd, BitOr, BitXor, Shl, Shr};
+    vectors! {
+        u64, 1, and: BitAnd::bitand, or: BitOr::bitor, xor: BitXor::bitxor;
+        by: shl: Shl::shl, by, shr: Shr::shr, by
+    }
 }
 
 mod words {
@@ -155,21 +126,14 @@ mod words {
             u64x4::from_array(from_fn(|i| one(words[i], by[i])))
         }
     }
-    impl BitAnd for u64x4 {
-        type Output = u64x4;
-        #[inline(always)]
-        fn bitand(self, other: u64x4) -> u64x4 { u64x4(from_fn(|i| and(self.0[i], other.0[i]))) }
+    macro_rules! operators {
+        ($($kind:ident $name:ident $call:ident;)*) => { $(impl $kind for u64x4 {
+            type Output = u64x4;
+            #[inline(always)]
+            fn $name(self, other: u64x4) -> u64x4 { u64x4(from_fn(|i| $call(self.0[i], other.0[i]))) }
+        })* };
     }
-    impl BitOr for u64x4 {
-        type Output = u64x4;
-        #[inline(always)]
-        fn bitor(self, other: u64x4) -> u64x4 { u64x4(from_fn(|i| or(self.0[i], other.0[i]))) }
-    }
-    impl BitXor for u64x4 {
-        type Output = u64x4;
-        #[inline(always)]
-        fn bitxor(self, other: u64x4) -> u64x4 { u64x4(from_fn(|i| xor(self.0[i], other.0[i]))) }
-    }
+    operators! { BitAnd bitand and; BitOr bitor or; BitXor bitxor xor; }
     impl Shl for u64x4 {
         type Output = u64x4;
         #[inline(always)]

@@ -1,5 +1,5 @@
 //! Waits, and words of memory that a thread can sleep on.
-use crate::rt::HostRuntime;
+use super::rt::HostRuntime;
 use std::sync::{Condvar, Mutex, MutexGuard};
 use std::time::Duration;
 

@@ -12,7 +12,7 @@ pub mod time {
 }
 
 pub mod env {
-    use crate::memory::{Refusable, String};
+    use super::super::memory::{Refusable, String};
     use std::io;
     use std::vec::{IntoIter, Vec};
     pub type Args = IntoIter<String>;
@@ -53,12 +53,12 @@ pub mod fs {
 
 pub mod os {
     pub mod unix {
-        pub use crate::fs;
+        pub use super::super::fs;
     }
 }
 
 pub mod process {
-    pub use crate::rt::Abort;
+    pub use super::super::rt::Abort;
     /// The status that a program ends with.
     pub struct ExitCode(pub i32);
     impl ExitCode {

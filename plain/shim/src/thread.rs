@@ -1,5 +1,5 @@
 //! Threads that end before what they borrow.
-pub use crate::rt::Threads;
+pub use super::rt::Threads;
 use std::io;
 use std::num::NonZeroUsize;
 use std::sync::mpsc::{Receiver, sync_channel};

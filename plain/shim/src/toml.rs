@@ -1,6 +1,6 @@
 //! The names of the kit's `toml` over the real one.
-use crate::alloc::{AllocError, Global};
-use crate::memory::{Refusable, String, Vec};
+use super::alloc::{AllocError, Global};
+use super::memory::{Refusable, String, Vec};
 use ::toml::Value as Real;
 use std::collections::BTreeMap;
 use std::string::String as Text;

@@ -1,8 +1,11 @@
 //! The calls of `include/fhpgas.h` as a library for C, and as a module for the page, which has no
 //! system below it.
 #![cfg_attr(target_arch = "wasm32", no_std)]
+#![allow(unused)]
+// modules
+use gas_export::calls::*;
 
-extern crate gas_export;
+// calls
 
 /// What this build is, a text for C. A library of proved machine code has no such call.
 #[unsafe(no_mangle)]

@@ -1,11 +1,6 @@
 //! What Rattle's library and crates have and Rust's have not, over Rust's: the names that the
 //! sources use, and no more. An allocator is a value, a call that takes memory can refuse, and who
-//! waits, prints or reads holds the runtime. With the feature `std` it also has what needs a system.
-#![no_std]
-
-extern crate alloc as heap;
-#[cfg(feature = "std")]
-extern crate std;
+//! waits, prints or reads holds the runtime. With the feature `program` it also has what needs a system.
 
 // The page's module has 32 bits, and compares lengths in 64. Rings count words without end.
 #[cfg(not(any(target_pointer_width = "64", target_arch = "wasm32")))]
@@ -22,7 +17,7 @@ pub mod simd;
 
 /// What needs a system.
 macro_rules! with_a_system {
-    ($($item:item)*) => { $(#[cfg(feature = "std")] $item)* };
+    ($($item:item)*) => { $(#[cfg(feature = "program")] $item)* };
 }
 with_a_system! {
     pub mod clap;
@@ -43,11 +38,11 @@ pub use index::{At, CHECKED, unreached};
 pub const BUILD: &str = if CHECKED {
     "plain Rust, checked, not proved\0"
 } else {
-    concat!(env!("CARGO_PKG_DESCRIPTION"), "\0")
+    "plain Rust, trusts the proofs of PROVED, not proved\0"
 };
 
 pub mod collections {
-    pub use crate::memory::VecDeque;
+    pub use super::memory::VecDeque;
 }
 
 pub mod marker {
@@ -79,11 +74,11 @@ pub mod fmt {
 
 /// What each source has without a `use`, and the crates that this one stands for.
 pub mod prelude {
-    pub use crate::index::At;
-    pub use crate::memory::{InMemory as _, String, Vec};
-    pub use crate::rand_core;
-    #[cfg(feature = "std")]
-    pub use crate::{
+    pub use super::index::At;
+    pub use super::memory::{InMemory as _, String, Vec};
+    pub use super::rand_core;
+    #[cfg(feature = "program")]
+    pub use super::{
         clap,
         rt::{Eprint, HostRuntime, Print},
         rtrb,
