@@ -98,6 +98,14 @@ class Differences(unittest.TestCase):
                         refused = 1, "", f"scene: {reason}\n"
                         self.assertEqual(found, (0, READ, "") if reason == READ else refused)
 
+    def test_what_is_nested_very_deep(self):
+        """Rust's reader of TOML calls itself at each level, and leaves the stack."""
+        told = {PLAIN: (-signal.SIGSEGV, "", ""), PROVED: (1, "", "scene: not TOML\n")}
+        for program, wanted in told.items():
+            if program.exists():
+                with self.subTest(program=program):
+                    self.assertEqual(ended(program, "check", text="a = " + 10**6 * "["), wanted)
+
     def test_texts_of_help_and_usage(self):
         for words, *wanted in (line.split(" | ") for line in TEXTS.split("\n")):
             for program, line in zip((PLAIN, PROVED), wanted):
