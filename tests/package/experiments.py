@@ -57,8 +57,9 @@ def numbers_of(line):
 def ran(words):
     """The status, output and error output of an experiment."""
     script, *options = words.split()
-    command = [sys.executable, needs.ROOT / "experiments" / script, *options]
-    done = subprocess.run(command, capture_output=True, text=True)
+    path = needs.ROOT / "experiments" / script
+    sure(path.stat().st_mode & 0o100, f"{script} can't be started by its name")
+    done = subprocess.run([sys.executable, path, *options], capture_output=True, text=True)
     return done.returncode, done.stdout, done.stderr
 
 
