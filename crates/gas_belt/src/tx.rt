@@ -9,7 +9,6 @@ use gas_geom::gas::Gas;
 use gas_rows::row::Row;
 use rtrb::Producer;
 use std::marker::{Model, PhantomData};
-use std::snapshot::Snapshot;
 
 /// An end that rows were put on, after its close.
 #[derive(Drop)]
@@ -17,7 +16,7 @@ pub struct Spent<G: Gas> {
     pub(crate) ring: Producer<u64>,
     pub(crate) count: u64,
     width: u32,
-    looked: Snapshot<u64>,
+    looked: u64,
     gas: PhantomData<G>,
 }
 
@@ -34,7 +33,7 @@ impl<G: Gas> Model for Spent<G> {
       belt = belt_of G.rules.dirs s.width s.ring.end;
       put = rows_in G.rules.dirs s.width s.count (sent s.ring);
       spare = None;
-      limit = capacity_of s.ring.end / row_words G.rules.dirs s.width + s.looked.value;
+      limit = capacity_of s.ring.end / row_words G.rules.dirs s.width + s.looked;
     } };
 
     ghost invariant = { λ s. length (sent s.ring) ≡ row_words G.rules.dirs s.width * s.count };
@@ -48,7 +47,7 @@ pub struct Tx<G: Gas> {
     width: u32,
     spare: Option<Row<G>>,
     // The number of rows that were taken when the other end was looked at.
-    looked: Snapshot<u64>,
+    looked: u64,
 }
 
 impl<G: Gas> Model for Tx<G> {
@@ -64,12 +63,12 @@ impl<G: Gas> Model for Tx<G> {
       belt = belt_of G.rules.dirs t.width t.ring.end;
       put = rows_in G.rules.dirs t.width t.count (sent t.ring);
       spare = t.spare;
-      limit = capacity_of t.ring.end / row_words G.rules.dirs t.width + t.looked.value;
+      limit = capacity_of t.ring.end / row_words G.rules.dirs t.width + t.looked;
     } };
 
     ghost invariant = { λ t. record {
       counted : length (sent t.ring) ≡ row_words G.rules.dirs t.width * t.count;
-      known : capacity_of t.ring.end + row_words G.rules.dirs t.width * t.looked.value
+      known : capacity_of t.ring.end + row_words G.rules.dirs t.width * t.looked
           ≤ length (sent t.ring) + known_free t.ring;
     } };
 }
@@ -91,7 +90,7 @@ impl<G: Gas> Tx<G> {
             count: 0,
             width,
             spare: None,
-            looked: Snapshot::of(&0),
+            looked: 0,
         }
     }
 
@@ -133,7 +132,7 @@ impl<G: Gas> Tx<G> {
         ensures unchanged { rx.new ≡ rx.old }
     {
         self.ring.slots_beside(&mut rx.end.ring);
-        self.looked = Snapshot::of(&rx.count);
+        self.looked = rx.count;
     }
 
     /// Hands out the row of the newest put, for reuse. None if it was already handed out.

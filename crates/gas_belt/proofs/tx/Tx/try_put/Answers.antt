@@ -24,6 +24,6 @@ returns-in_default-clause-succeeds g c = λ wide below room.
     let here : length c.args.row ≡ s.width = sym c.width.ensures.value ∙ c.if-width-self.false in
     let long : length c.as_words.result.now ≡ size = c.as_words.ensures.words.long ∙ ap (λ k. dirs * words_in k) here in
     let put : s.count ≡ length c.args.self.now.put = sym (parts_length (cells_of dirs s.width) size s.count (sent s.ring)) ∙ ap (λ (t : Sender). length t.put) c.self.view_is in
-    let limit : capacity_of s.ring.end / size + s.looked.value ≡ c.args.self.now.limit = ap (λ (t : Sender). t.limit) c.self.view_is in
-    let free : size ≤ known_free s.ring = row_free size (capacity_of s.ring.end) s.looked.value s.count (known_free s.ring) (omega (arith, c.self.invariant.counted, c.self.invariant.known)) (omega (arith, room, put, limit)) in
+    let limit : capacity_of s.ring.end / size + s.looked ≡ c.args.self.now.limit = ap (λ (t : Sender). t.limit) c.self.view_is in
+    let free : size ≤ known_free s.ring = row_free size (capacity_of s.ring.end) s.looked s.count (known_free s.ring) (omega (arith, c.self.invariant.counted, c.self.invariant.known)) (omega (arith, room, put, limit)) in
     absurd (omega (arith, free, long, c.in_default.ensures.full.0.2, c.in_default.ensures.full.2))
