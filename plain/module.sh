@@ -41,7 +41,7 @@ fi
 cd "$folder/workspace"
 offline=$([ ! -e .cargo/config.toml ] || echo --offline)
 flags="--sysroot $root -C linker=wasm-ld -C link-arg=-zstack-size=65536 -C target-feature=+simd128"
-RUSTC=$rustc CARGO_PROFILE_RELEASE_STRIP=true CARGO_TARGET_WASM32_UNKNOWN_UNKNOWN_RUSTFLAGS=$flags \
+RUSTC=$rustc CARGO_PROFILE_RELEASE_STRIP=true CARGO_PROFILE_RELEASE_LTO=true CARGO_TARGET_WASM32_UNKNOWN_UNKNOWN_RUSTFLAGS=$flags \
     cargo build --release --quiet --package engine --lib --no-default-features --features trusting --target "$target" ${offline:+"$offline"}
 cp "target/$target/release/fhpgas.wasm" "$folder/module.wasm"
 echo "$version"
