@@ -25,6 +25,15 @@ fn few_at(words: &[u64]) -> u64x4
     u64x4::from_array(four)
 }
 
+// Words `j` to `j + 3` of a row that has them.
+#[inline(always)]
+fn four_of(words: &[u64], j: usize) -> u64x4
+    requires within { j + 4 ≤ length words.now }
+    ensures { (l : ℕ) → l < 4 → slice_index result l ≡ slice_index words.now (j + l) }
+{
+    u64x4::from_slice(&words[j..j + 4])
+}
+
 /// Words `j` to `j + 3` of a row of `n` words, with zeros past its end. Only a row of fewer than four
 /// words is read past its end.
 #[inline(always)]
@@ -63,45 +72,47 @@ fn four_from_east(here: u64x4, after: u64x4) -> u64x4
 // The words before words `j` to `j + 3`. Before the first word stands the last one, with the row's
 // last bit on top.
 #[inline(always)]
-fn four_before(words: &[u64], width: u32, j: usize, first: bool) -> u64x4
+fn four_before(words: &[u64], here: u64x4, width: u32, j: usize, first: bool) -> u64x4
     requires some_cells { 1 ≤ width }
     requires few_cells { width ≤ 65536 }
     requires long { length words.now ≡ words_in width }
     requires within { j + 4 ≤ max 4 (words_in width) }
+    requires here { (l : ℕ) → l < 4 → slice_index here l ≡ slice_index words.now (j + l) }
     requires first { IsTrue first → j ≡ 0 }
     requires after_first { IsTrue (not first) → 1 ≤ j }
     ensures { (l : ℕ) → l < 4 → 64 * (j + l) < width → holds (slice_index result l) 63
         ≡ bit words.now (column_after width (64 * (j + l)) Back) }
 {
-    let n = words_for(width);
     if !first {
-        return four_at(words, n, j - 1);
+        return four_of(words, j - 1);
     }
-    let [one, two, three, _] = four_at(words, n, 0).to_array();
+    let n = words_for(width);
+    let [one, two, three, _] = here.to_array();
     let last = with_last_bit_on_top(words[n - 1], (width - 1) % 64);
     u64x4::from_array([last, one, two, three])
 }
 
 // The eastern neighbours of the cells of words `j` to `j + 3`.
 #[inline(always)]
-fn east_of(words: &[u64], width: u32, j: usize, last: bool) -> u64x4
+fn east_of(words: &[u64], here: u64x4, width: u32, j: usize, last: bool) -> u64x4
     requires some_cells { 1 ≤ width }
     requires few_cells { width ≤ 65536 }
     requires long { length words.now ≡ words_in width }
     requires within { j + 4 ≤ max 4 (words_in width) }
+    requires here { (l : ℕ) → l < 4 → slice_index here l ≡ slice_index words.now (j + l) }
     requires last { IsTrue last → words_in width ≤ j + 4 }
     requires before_last { IsTrue (not last) → j + 4 < words_in width }
     ensures { AreFourBeside words.now width On j result }
 {
-    let n = words_for(width);
-    let here = four_at(words, n, j);
     if !last {
-        return four_from_east(here, four_at(words, n, j + 1));
+        return four_from_east(here, four_of(words, j + 1));
     }
+    let n = words_for(width);
     let [_, two, three, four] = here.to_array();
     let after = u64x4::from_array([two, three, four, 0]);
     let mut beside = four_from_east(here, after).to_array();
-    beside[n - 1 - j] = east_of_last(words, width);
+    let end = (n - 1).min(3);
+    beside[end] = east_of_last(words, width);
     u64x4::from_array(beside)
 }
 
@@ -115,20 +126,54 @@ fn east_of_last(words: &[u64], width: u32) -> u64
     from_east(words[words.len() - 1], (width - 1) % 64, words[0])
 }
 
-// The neighbours of the cells of words `j` to `j + 3` to which a move leads.
+/// The neighbours of the cells of words `j` to `j + 3` to which a move leads. `first` and `last` say whether
+/// they are the row's first and last words.
 #[inline(always)]
-fn four_beside(along: Move, words: &[u64], width: u32, j: usize, first: bool, last: bool) -> u64x4
+pub fn four_beside(
+    along: Move,
+    words: &[u64],
+    width: u32,
+    j: usize,
+    first: bool,
+    last: bool,
+) -> u64x4
     requires some_cells { 1 ≤ width }
     requires few_cells { width ≤ 65536 }
     requires long { length words.now ≡ words_in width }
     requires place { IsPlace width j first last }
-    ensures { AreFourBeside words.now width along j result }
+    ensures beside { (l b : ℕ) → l < 4 → b < 64 → 64 * (j + l) + b < width →
+        holds (slice_index result l) b ≡ bit words.now (column_after width (64 * (j + l) + b) along) }
 {
     let here = four_at(words, words_for(width), j);
     match along {
-        Move::Back => four_from_west(four_before(words, width, j, first), here),
+        Move::Back => four_from_west(four_before(words, here, width, j, first), here),
         Move::Stay => here,
-        Move::On => east_of(words, width, j, last),
+        Move::On => east_of(words, here, width, j, last),
+    }
+}
+
+/// The neighbours of the cells of words `j` to `j + 3` to which a move leads, where these are neither
+/// the row's first nor its last words. Shorter than `stream_four`, so that it is inlined where the move is
+/// a constant.
+#[inline(always)]
+pub fn inner_beside(along: Move, words: &[u64], width: u32, j: usize) -> u64x4
+    requires long { length words.now ≡ words_in width }
+    requires after_first { 1 ≤ j }
+    requires before_last { j + 4 < words_in width }
+    ensures beside { (l b : ℕ) → l < 4 → b < 64 → holds (slice_index result l) b
+        ≡ bit words.now (column_after width (64 * (j + l) + b) along) }
+{
+    let here = four_of(words, j);
+    match along {
+        Move::Back => {
+            let before = four_of(words, j - 1);
+            four_from_west(before, here)
+        }
+        Move::Stay => here,
+        Move::On => {
+            let after = four_of(words, j + 1);
+            four_from_east(here, after)
+        }
     }
 }
 

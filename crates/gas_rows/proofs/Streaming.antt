@@ -119,6 +119,11 @@ beside-solid dirs c at n Back x about lt = about.solid_above x lt
 beside-solid dirs c at n Stay x about lt = about.solid_middle x lt
 beside-solid dirs c at n On x about lt = about.solid_below x lt
 
+pub beside-fluid : (m : Move) (a b c : List ℕ) (x : ℕ) → bit a x ≡ false → bit b x ≡ false → bit c x ≡ false → bit (row_beside m a b c) x ≡ false
+beside-fluid Back a b c x ea eb ec = ea
+beside-fluid Stay a b c x ea eb ec = eb
+beside-fluid On a b c x ea eb ec = ec
+
 -- ---- all directions
 pub each_of_eight : (P : ℕ → Type 0) → P 0 → P 1 → P 2 → P 3 → P 4 → P 5 → P 6 → P 7 → (i : ℕ) → i < 8 → P i
 each_of_eight P p0 p1 p2 p3 p4 p5 p6 p7 i h = elim (cases_lt i 4) [

@@ -1,6 +1,6 @@
 //! The streaming of a row, wherever walls and solid cells are: every particle moves along its link,
 //! or is sent back if the link ends at a solid cell or the wall.
-ghost use Rattle.std.specs.Prelude.{◌≡◌, ◌+◌, ◌-◌, ◌*◌, ◌/◌, ◌%◌, ◌<◌, ◌≤◌, ◌==◌, ℕ, false, take, drop, IsTrue, length, slice_index};
+ghost use Rattle.std.specs.Prelude.{◌≡◌, ◌+◌, ◌-◌, ◌*◌, ◌/◌, ◌%◌, ◌<◌, ◌≤◌, ◌==◌, ℕ, max, false, take, drop, IsTrue, length, slice_index};
 ghost use Rattle.gas_geom.specs.declared.size.TheConstants.{MOST_SIDE};
 ghost use Rattle.gas_bits.specs.Words.{words_in, bit};
 ghost use Rattle.gas_bits.specs.Shift.{IsPlace};
@@ -9,7 +9,7 @@ ghost use Rattle.gas_rows.specs.Inner.Beside.{row_beside};
 use crate::collision::directions;
 use gas_bits::plane::Incoming;
 use gas_bits::planes::{clear_planes_past, write_four_at};
-use gas_bits::stream::{four_at, stream_four};
+use gas_bits::stream::{four_at, four_beside, inner_beside, stream_four};
 use gas_bits::word::words_for;
 use gas_geom::gas::Gas;
 use gas_geom::moves::{Move, moves};
@@ -145,6 +145,131 @@ impl<'a, 'b> Kernel<'a, 'b> {
         ]
     }
 
+    // Words `j` to `j + 3` of direction `i` after streaming where no cell is solid, and zeros if the gas has
+    // no such direction. They are neither the row's first nor its last words. Short, so that it is inlined
+    // and the moves are constants.
+    #[inline(always)]
+    fn inner_four<G: Gas>(&self, i: u32, j: usize, odd: bool) -> u64x4
+        requires rows { AreRowsLong G.rules.dirs self.now.rows }
+        requires fluid { IsTrue self.now.all_fluid }
+        requires odd { odd ≡ self.now.odd }
+        requires after_first { 1 ≤ j }
+        requires before_last { j + 4 < words_in self.now.rows.width }
+        ensures { (channel : ChannelModel) (at : ℕ → ℕ → ℕ) →
+            AreWordsAbout G.rules.dirs channel at self.now.rows → i < G.rules.dirs → (c : ℕ) → c < 256 →
+            64 * j + c < channel.width → holds (slice_index result (c / 64)) (c % 64)
+            ≡ holds (streamed G.rules channel at (64 * j + c) self.now.rows.y) i }
+    {
+        if i >= G::DIRS {
+            return u64x4::splat(0);
+        }
+        let (along, down) = moves::<G>(G::opposite(i), odd);
+        let from = row_beside(down, self.rows.above, self.rows.middle, self.rows.below);
+        let coming = plane(from, directions::<G>(), i, words_for(self.rows.width));
+        inner_beside(along, coming, self.rows.width, j)
+    }
+
+    // Words `j` to `j + 3` of each direction after streaming, as above.
+    #[inline(always)]
+    fn inner_planes<G: Gas>(&self, j: usize, odd: bool) -> [u64x4; 8]
+        requires rows { AreRowsLong G.rules.dirs self.now.rows }
+        requires fluid { IsTrue self.now.all_fluid }
+        requires odd { odd ≡ self.now.odd }
+        requires after_first { 1 ≤ j }
+        requires before_last { j + 4 < words_in self.now.rows.width }
+        ensures { (channel : ChannelModel) (at : ℕ → ℕ → ℕ) →
+            AreWordsAbout G.rules.dirs channel at self.now.rows → (i c : ℕ) → i < G.rules.dirs → c < 256 →
+            64 * j + c < channel.width → four_has result i c
+            ≡ holds (streamed G.rules channel at (64 * j + c) self.now.rows.y) i }
+    {
+        [
+            self.inner_four::<G>(0, j, odd),
+            self.inner_four::<G>(1, j, odd),
+            self.inner_four::<G>(2, j, odd),
+            self.inner_four::<G>(3, j, odd),
+            self.inner_four::<G>(4, j, odd),
+            self.inner_four::<G>(5, j, odd),
+            self.inner_four::<G>(6, j, odd),
+            self.inner_four::<G>(7, j, odd),
+        ]
+    }
+
+    // Words `j` to `j + 3` of direction `i` after streaming where no cell is solid, and zeros if the gas has
+    // no such direction. `first` and `last` say whether they are the row's first and last words.
+    #[inline(always)]
+    fn fluid_four<G: Gas>(&self, i: u32, j: usize, odd: bool, first: bool, last: bool) -> u64x4
+        requires rows { AreRowsLong G.rules.dirs self.now.rows }
+        requires fluid { IsTrue self.now.all_fluid }
+        requires odd { odd ≡ self.now.odd }
+        requires place { IsPlace self.now.rows.width j first last }
+        ensures { (channel : ChannelModel) (at : ℕ → ℕ → ℕ) →
+            AreWordsAbout G.rules.dirs channel at self.now.rows → i < G.rules.dirs → (c : ℕ) → c < 256 →
+            64 * j + c < channel.width → holds (slice_index result (c / 64)) (c % 64)
+            ≡ holds (streamed G.rules channel at (64 * j + c) self.now.rows.y) i }
+    {
+        if i >= G::DIRS {
+            return u64x4::splat(0);
+        }
+        let (along, down) = moves::<G>(G::opposite(i), odd);
+        let from = row_beside(down, self.rows.above, self.rows.middle, self.rows.below);
+        let coming = plane(from, directions::<G>(), i, words_for(self.rows.width));
+        four_beside(along, coming, self.rows.width, j, first, last)
+    }
+
+    // Words `j` to `j + 3` of each direction after streaming, as above. Constants in place
+    // of arguments, since this is too long to be inlined into each caller, and has one for each of them.
+    #[inline(always)]
+    fn fluid_planes<G: Gas, const ODD: bool, const FIRST: bool, const LAST: bool>(
+        &self,
+        j: usize,
+    ) -> [u64x4; 8]
+        requires rows { AreRowsLong G.rules.dirs self.now.rows }
+        requires fluid { IsTrue self.now.all_fluid }
+        requires odd { ODD ≡ self.now.odd }
+        requires place { IsPlace self.now.rows.width j FIRST LAST }
+        ensures { (channel : ChannelModel) (at : ℕ → ℕ → ℕ) →
+            AreWordsAbout G.rules.dirs channel at self.now.rows → (i c : ℕ) → i < G.rules.dirs → c < 256 →
+            64 * j + c < channel.width → four_has result i c
+            ≡ holds (streamed G.rules channel at (64 * j + c) self.now.rows.y) i }
+    {
+        [
+            self.fluid_four::<G>(0, j, ODD, FIRST, LAST),
+            self.fluid_four::<G>(1, j, ODD, FIRST, LAST),
+            self.fluid_four::<G>(2, j, ODD, FIRST, LAST),
+            self.fluid_four::<G>(3, j, ODD, FIRST, LAST),
+            self.fluid_four::<G>(4, j, ODD, FIRST, LAST),
+            self.fluid_four::<G>(5, j, ODD, FIRST, LAST),
+            self.fluid_four::<G>(6, j, ODD, FIRST, LAST),
+            self.fluid_four::<G>(7, j, ODD, FIRST, LAST),
+        ]
+    }
+
+    // Writes words `j` to `j + 3` of each direction, which arrived there, after the collision that follows
+    // if it `collides`. Bits past the width are left open.
+    #[inline(always)]
+    fn put_four<G: Gas>(&self, j: usize, arrived: [u64x4; 8], collides: bool, out: &mut [u64])
+        requires within { j + 4 ≤ max 4 (words_in self.now.rows.width) }
+        requires arrived { (channel : ChannelModel) (at : ℕ → ℕ → ℕ) →
+            AreWordsAbout G.rules.dirs channel at self.now.rows → (i c : ℕ) → i < G.rules.dirs → c < 256 →
+            64 * j + c < channel.width → four_has arrived i c
+            ≡ holds (streamed G.rules channel at (64 * j + c) self.now.rows.y) i }
+        requires collides { collides ≡ self.now.collides }
+        requires long { length out.old ≡ G.rules.dirs * words_in self.now.rows.width }
+        ensures long { length out.new ≡ length out.old }
+        ensures advanced { (channel : ChannelModel) (at : ℕ → ℕ → ℕ) →
+            AreWordsAbout G.rules.dirs channel at self.now.rows →
+            AreAdvanced G.rules channel at self.now j (j + 4) out.old out.new }
+    {
+        let dirs = directions::<G>();
+        let words_each = words_for(self.rows.width);
+        let planes = if collides {
+            G::collide_planes(arrived, four_at(self.chi, words_each, j))
+        } else {
+            arrived
+        };
+        write_four_at(out, words_each, dirs, j, planes, u64x4::splat(0));
+    }
+
     // Writes words `j` to `j + 3` of each direction after streaming and, if it `collides`, the collision
     // that follows. Bits past the width are left open.
     #[inline(always)]
@@ -158,21 +283,16 @@ impl<'a, 'b> Kernel<'a, 'b> {
             AreWordsAbout G.rules.dirs channel at self.now.rows →
             AreAdvanced G.rules channel at self.now j (j + 4) out.old out.new }
     {
-        let dirs = directions::<G>();
-        let words_each = words_for(self.rows.width);
-        let streamed = self.stream_planes::<G>(j, first, last);
-        let planes = if collides {
-            G::collide_planes(streamed, four_at(self.chi, words_each, j))
-        } else {
-            streamed
-        };
-        write_four_at(out, words_each, dirs, j, planes, u64x4::splat(0));
+        let arrived = self.stream_planes::<G>(j, first, last);
+        self.put_four::<G>(j, arrived, collides, out);
     }
 
-    // Writes the words of a row but the first and the last four.
+    // Writes the words of a row but the first and the last four, where no cell is solid.
     #[inline(always)]
-    fn write_fours<G: Gas>(&self, collides: bool, out: &mut [u64])
+    fn write_fours<G: Gas>(&self, odd: bool, collides: bool, out: &mut [u64])
         requires rows { AreRowsLong G.rules.dirs self.now.rows }
+        requires fluid { IsTrue self.now.all_fluid }
+        requires odd { odd ≡ self.now.odd }
         requires many { 4 ≤ words_in self.now.rows.width }
         requires collides { collides ≡ self.now.collides }
         requires long { length out.old ≡ G.rules.dirs * words_in self.now.rows.width }
@@ -182,14 +302,16 @@ impl<'a, 'b> Kernel<'a, 'b> {
             AreAdvanced G.rules channel at self.now 4 (4 * ((words_in self.now.rows.width - 1) / 4)) out.old out.new }
     {
         for k in 1..(words_for(self.rows.width) - 1) / 4 {
-            self.write_four::<G>(4 * k, false, false, collides, out);
+            let arrived = self.inner_planes::<G>(4 * k, odd);
+            self.put_four::<G>(4 * k, arrived, collides, out);
         }
     }
 
-    // The same with a constant for the collision.
-    #[inline(always)]
+    // The same with constants for the parity and the collision, by a loop for each of them.
+    #[inline(never)]
     fn write_middle<G: Gas>(&self, out: &mut [u64])
         requires rows { AreRowsLong G.rules.dirs self.now.rows }
+        requires fluid { IsTrue self.now.all_fluid }
         requires many { 4 ≤ words_in self.now.rows.width }
         requires long { length out.old ≡ G.rules.dirs * words_in self.now.rows.width }
         ensures long { length out.new ≡ length out.old }
@@ -197,18 +319,53 @@ impl<'a, 'b> Kernel<'a, 'b> {
             AreWordsAbout G.rules.dirs channel at self.now.rows →
             AreAdvanced G.rules channel at self.now 4 (4 * ((words_in self.now.rows.width - 1) / 4)) out.old out.new }
     {
-        if self.collides {
-            self.write_fours::<G>(true, out);
-        } else {
-            self.write_fours::<G>(false, out);
+        let kernel = *self;
+        // Never so, but a compiler then leaves out what only a shorter row needs.
+        if words_for(kernel.rows.width) < 4 {
+            return;
+        }
+        match (kernel.odd, kernel.collides) {
+            (true, true) => kernel.write_fours::<G>(true, true, out),
+            (true, false) => kernel.write_fours::<G>(true, false, out),
+            (false, true) => kernel.write_fours::<G>(false, true, out),
+            (false, false) => kernel.write_fours::<G>(false, false, out),
         }
     }
 
-    // Writes all words of a row of at least four words of each direction. The last four lie over those
+    // Writes words `j` to `j + 3` of each direction where no cell is solid.
+    #[inline(never)]
+    fn write_end<G: Gas, const ODD: bool, const FIRST: bool, const LAST: bool>(
+        &self,
+        j: usize,
+        out: &mut [u64],
+    )
+        requires rows { AreRowsLong G.rules.dirs self.now.rows }
+        requires fluid { IsTrue self.now.all_fluid }
+        requires odd { ODD ≡ self.now.odd }
+        requires many { 4 ≤ words_in self.now.rows.width }
+        requires place { IsPlace self.now.rows.width j FIRST LAST }
+        requires long { length out.old ≡ G.rules.dirs * words_in self.now.rows.width }
+        ensures long { length out.new ≡ length out.old }
+        ensures advanced { (channel : ChannelModel) (at : ℕ → ℕ → ℕ) →
+            AreWordsAbout G.rules.dirs channel at self.now.rows →
+            AreAdvanced G.rules channel at self.now j (j + 4) out.old out.new }
+    {
+        let kernel = *self;
+        // Never so, but a compiler then leaves out what only a shorter row needs.
+        if words_for(kernel.rows.width) < 4 {
+            return;
+        }
+        let arrived = kernel.fluid_planes::<G, ODD, FIRST, LAST>(j);
+        kernel.put_four::<G>(j, arrived, kernel.collides, out);
+    }
+
+    // Writes all words of a row of at least four words of each direction, where no cell is solid. The last four lie over those
     // before them, which the row written never is read for.
     #[inline(always)]
-    fn write_row<G: Gas>(&self, out: &mut [u64])
+    fn write_row<G: Gas, const ODD: bool>(&self, out: &mut [u64])
         requires rows { AreRowsLong G.rules.dirs self.now.rows }
+        requires fluid { IsTrue self.now.all_fluid }
+        requires odd { ODD ≡ self.now.odd }
         requires many { 4 ≤ words_in self.now.rows.width }
         requires long { length out.old ≡ G.rules.dirs * words_in self.now.rows.width }
         ensures long { length out.new ≡ length out.old }
@@ -217,10 +374,12 @@ impl<'a, 'b> Kernel<'a, 'b> {
             AreAdvanced G.rules channel at self.now 0 (words_in self.now.rows.width) out.old out.new }
     {
         let words_each = words_for(self.rows.width);
-        self.write_four::<G>(0, true, words_each == 4, self.collides, out);
-        if words_each > 4 {
+        if words_each == 4 {
+            self.write_end::<G, ODD, true, true>(0, out);
+        } else {
+            self.write_end::<G, ODD, true, false>(0, out);
             self.write_middle::<G>(out);
-            self.write_four::<G>(words_each - 4, false, true, self.collides, out);
+            self.write_end::<G, ODD, false, true>(words_each - 4, out);
         }
     }
 
@@ -260,7 +419,11 @@ impl<'a, 'b> Kernel<'a, 'b> {
             AreAdvanced G.rules channel at self.now 0 (words_in self.now.rows.width) out.old out.new }
     {
         if self.all_fluid {
-            self.write_row::<G>(out);
+            if self.odd {
+                self.write_row::<G, true>(out);
+            } else {
+                self.write_row::<G, false>(out);
+            }
         } else {
             self.write_row_beside_solid::<G>(out);
         }

@@ -13,7 +13,7 @@ returns-then-not-first c = λ l hl h.
     let j : ℕ = c.args.j in
     let width : ℕ = c.args.width in
     let some : 1 ≤ j = c.requires.after_first (let e = c.if-not-first.true in grind arith) in
-    ap (λ w. holds w 63) (c.four_at.ensures.words l hl)
+    ap (λ w. holds w 63) (c.four_of.ensures l hl)
     ∙ sym (bit-at words (j - 1 + l) 63 (omega arith))
     ∙ ap (bit words) (sym (whole_turn width (64 * (j - 1 + l) + 63) (64 * (j + l) + width - 1) (omega (arith, some, h)) (omega (arith, some, h))))
 
@@ -23,11 +23,11 @@ returns c =
     let width : ℕ = c.args.width in
     let n = c.words_for-n.result in
     let start : c.args.j ≡ 0 = c.requires.first (let e = c.if-not-first.false in grind arith) in
-    let read = c.four_at-2.ensures.words in
-    let next : (l : ℕ) → l < 3 → 64 * (c.args.j + (l + 1)) < width → holds (get_or c.four_at-2.result l 0) 63 ≡ bit words ((64 * (c.args.j + (l + 1)) + width - 1) % width) = λ l hl h.
+    let read = c.requires.here in
+    let next : (l : ℕ) → l < 3 → 64 * (c.args.j + (l + 1)) < width → holds (get_or c.args.here l 0) 63 ≡ bit words ((64 * (c.args.j + (l + 1)) + width - 1) % width) = λ l hl h.
     ap (λ w. holds w 63) (read l (omega (arith, hl)))
-    ∙ sym (bit-at words (0 + l) 63 (omega arith))
-    ∙ ap (bit words) (sym (whole_turn width (64 * (0 + l) + 63) (64 * (c.args.j + (l + 1)) + width - 1) (omega (arith, start, h)) (omega (arith, start, h)))) in
+    ∙ sym (bit-at words (c.args.j + l) 63 (omega arith))
+    ∙ ap (bit words) (sym (whole_turn width (64 * (c.args.j + l) + 63) (64 * (c.args.j + (l + 1)) + width - 1) (omega (arith, start, h)) (omega (arith, start, h)))) in
     let last : 64 * (n - 1) + (width - 1) % 64 ≡ 64 * (c.args.j + 0) + width - 1 = omega (arith, start, c.words_for-n.ensures.value) in
     each_lane _
     (λ h. c.with_last_bit_on_top-last.ensures ∙ sym (bit-at words (n - 1) ((width - 1) % 64) (omega arith))

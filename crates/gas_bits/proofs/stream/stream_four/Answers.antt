@@ -7,8 +7,8 @@ pub returns : goal.returns
 returns c = record {
   streamed = λ l b hl hb inside.
       let q = c.args.incoming.now in
-      let arrives = c.four_beside-arriving.ensures l hl b hb inside in
-      let blocks = c.four_beside-blocked.ensures l hl b hb inside in
+      let arrives = c.four_beside-arriving.ensures.beside l b hl hb inside in
+      let blocks = c.four_beside-blocked.ensures.beside l b hl hb inside in
       let opposite = ap (λ w. holds w b) (c.four_at-opposite.ensures.words l hl) ∙ sym (bit-at q.opposite_here.now (c.args.j + l) b hb) in
       let solid = ap (λ w. holds w b) (c.four_at.ensures.words l hl) ∙ sym (bit-at q.solid_here.now (c.args.j + l) b hb) in
       let word = c.bounce.ensures l b hl hb in

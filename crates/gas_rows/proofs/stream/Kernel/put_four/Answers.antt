@@ -12,8 +12,8 @@ use Rattle.gas_bits.specs.Planes.{has, four_has}
 use Rattle.gas_bits.proofs.Scatters.{four-written, lane-bit, lane-none}
 use Rattle.gas_rows.specs.Inner.Streaming.{advanced_state}
 use Rattle.gas_rows.proofs.Streaming.{streamed-lt}
-use Rattle.gas_rows.proofs.stream.Kernel.write_four.Goals.{then-collides, else-collides}
-use Rattle.gas_rows.proofs.stream.Kernel.write_four.Goals as goal
+use Rattle.gas_rows.proofs.stream.Kernel.put_four.Goals.{then-collides, else-collides}
+use Rattle.gas_rows.proofs.stream.Kernel.put_four.Goals as goal
 
 pub returns-clause-advanced : goal.returns-clause-advanced
 returns-clause-advanced g c = λ ch at about x h.
@@ -33,9 +33,9 @@ returns-clause-advanced g c = λ ch at about x h.
     let written = four-written new old n gas.dirs x (64 * j) planes none inside (λ i hi.
     subst (λ (m : ℕ). has new m i x ≡ (if inside then four_has planes i cell && not none else has old m i x)) each
     (c.write_four_at.ensures.written i x (omega (arith, hi, c.directions-dirs.ensures.value)) (omega (arith, h, about.wide, each)))) in
-    let before : 64 * j ≤ x → x < 64 * j + 256 → set_in lanes_hold (replicate 4 0) gas.dirs c.stream_planes-streamed.result cell ≡ arrived = λ from to.
-    set_from gas.dirs arrived (λ i. four_has c.stream_planes-streamed.result i cell) (streamed-lt gas ch at x y) (λ i hi.
-    c.stream_planes-streamed.ensures ch at about i cell hi (omega (arith, from, to)) (omega (arith, from, h))
+    let before : 64 * j ≤ x → x < 64 * j + 256 → set_in lanes_hold (replicate 4 0) gas.dirs c.args.arrived cell ≡ arrived = λ from to.
+    set_from gas.dirs arrived (λ i. four_has c.args.arrived i cell) (streamed-lt gas ch at x y) (λ i hi.
+    c.requires.arrived ch at about i cell hi (omega (arith, from, to)) (omega (arith, from, h))
     ∙ ap (λ z. holds (streamed gas ch at z y) i) (let e : 64 * j + cell ≡ x = omega (arith, from) in e)) in
     let after : 64 * j ≤ x → x < 64 * j + 256 → set_in lanes_hold (replicate 4 0) gas.dirs planes cell ≡ advanced_state gas k.collides arrived (bit k.chi.now x) = λ from to.
     elim c.if-collides.branch [
