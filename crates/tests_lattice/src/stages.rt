@@ -1,4 +1,4 @@
-//! Passes of a stage and of stages one behind another, and rows that are streamed by themselves.
+//! Passes of a stage and of stages one behind another.
 
 ghost use Rattle.std.specs.Prelude.{◌≡◌, ◌+◌, ◌≤◌, ◌^◌, length, IfOk, IsOk, None};
 ghost use Rattle.gas_geom.specs.Channel.{free_channel};
@@ -10,7 +10,6 @@ use gas_rows::chirality::Chirality;
 use gas_rows::row::Row;
 use gas_stage::stage::Stage;
 use gas_stage::stages::Stages;
-use gas_stage::stream::stream_row;
 use std::alloc::Global;
 use std::process::Abort;
 use std::test::Fail;
@@ -83,27 +82,6 @@ fn pass(
     assert!(rt; is_given(stage.flush(), last), "the bottom row");
     assert!(rt; !stage.is_open() && stage.fed() == 0);
     Ok(())
-}
-
-// The same of a new stage, from a generation on.
-fn first_pass(
-    rt: &impl Abort,
-    alloc: Global,
-    channel: &Channel,
-    generation: u64,
-    rows: &[(OneCell, Option<OneCell>)],
-    last: OneCell,
-) -> Result<(), Fail> {
-    let mut stage = Stage::new(alloc, channel, Chirality::Left)?;
-    pass(
-        rt,
-        alloc,
-        &mut stage,
-        channel,
-        Some(generation),
-        rows,
-        Some(last),
-    )
 }
 
 // A pass that computes, and one of the same stage that passes rows on.
@@ -230,48 +208,17 @@ fn stages_of_two_rows(rt: HostRuntime) -> Result<(), Fail> {
 
 #[test]
 fn two_rows(rt: HostRuntime) -> Result<(), Fail> {
-    let channel = channel_of(rt.alloc(), 4, 2)?;
+    let alloc = rt.alloc();
+    let channel = channel_of(alloc, 4, 2)?;
+    let mut stage = Stage::new(alloc, &channel, Chirality::Left)?;
     let rows = [((0, 0x20), None), ((2, 0x02), Some((3, 0x02)))];
-    first_pass(&rt, rt.alloc(), &channel, 0, &rows, (0, 0x20))
-}
-
-// From the first column to the last of the widest channel.
-#[test]
-fn west_across_the_seam(rt: HostRuntime) -> Result<(), Fail> {
-    let channel = channel_of(rt.alloc(), 65536, 1)?;
-    let west = [((0, 0x08), None)];
-    first_pass(&rt, rt.alloc(), &channel, 0, &west, (65535, 0x08))
-}
-
-// Round the columns to the other side of an obstacle.
-#[test]
-fn round_to_an_obstacle(rt: HostRuntime) -> Result<(), Fail> {
-    let mut channel = channel_of(rt.alloc(), 4, 1)?;
-    channel.make_solid(1, 0);
-    let west = [((0, 0x08), None)];
-    first_pass(&rt, rt.alloc(), &channel, 1, &west, (3, 0x08))
-}
-
-#[test]
-fn east_across_the_seam(rt: HostRuntime) -> Result<(), Fail> {
-    let channel = channel_of(rt.alloc(), 63, 1)?;
-    let row = row_with(rt.alloc(), channel.size(), (62, 0x01))?;
-    let mut out = row_with(rt.alloc(), channel.size(), (5, 0x3f))?;
-    stream_row(&channel, 0, None, &row, None, &mut out);
-    assert!(rt; out.as_words() == [1, 0, 0, 0, 0, 0].as_slice());
-    Ok(())
-}
-
-// An obstacle in the last column sends back a particle that would come round to it, and the
-// particles that stand in it are not read.
-#[test]
-fn an_obstacle_at_the_seam(rt: HostRuntime) -> Result<(), Fail> {
-    let mut channel = channel_of(rt.alloc(), 65, 1)?;
-    channel.make_solid(64, 0);
-    let mut row = row_with(rt.alloc(), channel.size(), (0, 0x08))?;
-    row.set(64, 0x3f);
-    let mut out = Row::blank(rt.alloc(), 65)?;
-    stream_row(&channel, 0, None, &row, None, &mut out);
-    assert!(rt; has_only(&out, (0, 0x01)));
-    Ok(())
+    pass(
+        &rt,
+        alloc,
+        &mut stage,
+        &channel,
+        Some(0),
+        &rows,
+        Some((0, 0x20)),
+    )
 }

@@ -60,21 +60,6 @@ pub(super) fn turn_worker(
     turned
 }
 
-/// A turn of a worker, as `turn_worker` makes it. In the next pass so many of its stages compute from
-/// that generation on.
-pub(super) fn turn_stages(
-    worker: &mut Worker<'_, Fhp1>,
-    next: Option<(u64, u32)>,
-    before: &mut PlainBelt<Fhp1>,
-    behind: &mut PlainBelt<Fhp1>,
-) -> Turned {
-    let turned = worker.turn(before, behind);
-    if let (Turned::Done, Some((first, computing))) = (turned, next) {
-        worker.begin_stages(first.min(1_000_000), computing);
-    }
-    turned
-}
-
 /// A turn of a feeder.
 pub(super) fn turn_feeder(
     feeder: &mut Feeder<Fhp1>,

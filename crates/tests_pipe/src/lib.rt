@@ -3,8 +3,6 @@
 #![tactic(auto)]
 
 #[cfg(test)]
-mod carried;
-#[cfg(test)]
 mod helpers;
 #[cfg(test)]
 mod members;

@@ -17,7 +17,7 @@ use std::thread::Threads;
 // The helpers promise nothing, so that no test carries the promises of `run`.
 
 // A column, a row, and the state of the cell there.
-pub(super) type Cell = (u32, u32, u8);
+type Cell = (u32, u32, u8);
 
 // Sets a cell, if the lattice has it and it is not solid.
 fn set(lattice: &mut Lattice<Fhp1>, (x, y, state): Cell) {
@@ -40,14 +40,14 @@ pub(super) fn lattice(
     Ok(lattice)
 }
 
-// Five columns and four rows of this state, with an obstacle at (2, 1).
-pub(super) fn full_lattice(alloc: Global, state: u8) -> Result<Lattice<Fhp1>, Fail> {
+// Five columns and four rows of head-on pairs, with an obstacle at (2, 1).
+fn pairs(alloc: Global) -> Result<Lattice<Fhp1>, Fail> {
     let mut channel = Channel::free(alloc, Size::new(5, 4).ok_or("a size")?)?;
     channel.make_solid(2, 1);
     let mut lattice = Lattice::blank(alloc, channel)?;
     for y in 0..4 {
         for x in 0..5 {
-            set(&mut lattice, (x, y, state));
+            set(&mut lattice, (x, y, 0x09));
         }
     }
     Ok(lattice)
@@ -192,7 +192,7 @@ fn counts_are<R: Abort + Threads + Wait + Sync>(
     entered: u64,
     left: u64,
 ) -> Result<(), Fail> {
-    let lattice = full_lattice(alloc, 0x09)?;
+    let lattice = pairs(alloc)?;
     for threads in 1..=stages {
         let gate = Counts::new();
         let plan = Plan::new(stages, 2, 5)?.on(threads)?;

@@ -2,12 +2,10 @@
 #![tactic(auto)]
 
 #[cfg(test)]
+mod helpers;
+#[cfg(test)]
 mod lines;
 #[cfg(test)]
 mod reference;
-#[cfg(test)]
-mod resumed;
-#[cfg(test)]
-mod tests;
 #[cfg(test)]
 mod threads;

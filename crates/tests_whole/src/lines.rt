@@ -2,11 +2,11 @@
 
 ghost use Rattle.std.specs.Prelude.{◌≡◌, ◌≤◌};
 
+use super::helpers::{assert_same, random_lattice};
 use super::reference::lattice_after;
-use crate::tests::{assert_same, random_lattice, replay_of};
 use gas_geom::fhp1::Fhp1;
 use gas_geom::size::Size;
-use gas_pipe::{Plan, Replay};
+use gas_pipe::{Plan, Replay, replay};
 use gas_rows::chirality::Chirality;
 use gas_rows::lattice::Lattice;
 use rand_core::utils::NextWord;
@@ -114,6 +114,16 @@ const FIRST: u64 = 1_000_000;
 
 const CHIRALITY: Chirality = Chirality::Seeded(11);
 
+// A replay of turns. It promises nothing, so that no test carries the promises of `replay`.
+fn replay_of(
+    alloc: Global,
+    lattice: &Lattice<Fhp1>,
+    plan: Plan,
+    turns: &[u32],
+) -> Result<Replay<Fhp1>, Fail> {
+    Ok(replay(alloc, lattice, CHIRALITY, FIRST, plan, turns)?)
+}
+
 // Where the plan leads, cell by cell.
 fn plain_lattice(
     alloc: Global,
@@ -142,7 +152,7 @@ fn compare(
     for member in turns {
         lengths.turn(*member);
     }
-    let replay = replay_of(alloc, lattice, CHIRALITY, FIRST, plan, turns)?;
+    let replay = replay_of(alloc, lattice, plan, turns)?;
     assert_stands(rt, &replay, &lengths);
     if let Some(found) = replay.lattice() {
         assert_same(rt, found, &plain_lattice(alloc, lattice, plan)?);

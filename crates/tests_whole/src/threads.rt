@@ -3,8 +3,8 @@
 
 ghost use Rattle.std.specs.Prelude.{◌<◌, ◌^◌};
 
+use super::helpers::{assert_same, random_lattice};
 use super::reference::lattice_after;
-use crate::tests::{assert_same, random_lattice};
 use gas_geom::fhp_rest::FhpRest;
 use gas_geom::fhp1::Fhp1;
 use gas_geom::gas::Gas;

@@ -1,5 +1,5 @@
 use Rattle.std.proofs.Common.{◌≡◌}
-use Rattle.tests_whole.proofs.tests.scatter.Given as goal
+use Rattle.tests_whole.proofs.helpers.scatter.Given as goal
 
 -- the channel keeps its size
 abbrev pub invariant-loop-x : goal.invariant-loop-x
