@@ -18,19 +18,18 @@ name=fhpgas-$version-rust
 made=$room/$name
 
 plain/workspace.py "$made" ${2:+--proved "$2"}
-registry=$(sed -n 's/^directory = "\(.*\)"/\1/p' "$made/.cargo/config.toml")
-cp out/checked/workspace/Cargo.lock "$made" 2> /dev/null || env -C "$made" cargo generate-lockfile --quiet --offline
-(cd "$made" && cargo package --quiet --offline --allow-dirty --no-verify && cp target/package/*.crate "$folder" && rm -r target) # for crates.io
+cp out/checked/workspace/Cargo.lock "$made" 2> /dev/null || true
+(cd "$made" && cargo package --quiet --allow-dirty --no-verify && cp target/package/*.crate "$folder" && rm -r target) # for crates.io
 cp docs/NOTICES.md include/fhpgas.h "$made"
-mkdir -p "$made/vendor" "$room/licences/rust"
-awk -F '"' '/^name/ { name = $2 } /^version/ { version = $2 } /^source/ { print name "-" version }' "$made/Cargo.lock" | while read -r crate; do
-    cp -r "$registry/$crate" "$made/vendor"
-    notices=("$made/vendor/$crate"/LICENSE*)
+env -C "$made" cargo vendor --quiet --respect-source-config --versioned-dirs
+mkdir -p "$made/.cargo" "$room/licences/rust"
+printf '[source.%s]\n%s\n' crates-io 'replace-with = "vendor"' vendor 'directory = "vendor"' > "$made/.cargo/config.toml"
+for crate in "$made"/vendor/*; do
+    notices=("$crate"/LICENSE*) licences=$room/licences/$(basename "${crate%-*}")
     if [ ${#notices[@]} = 0 ]; then echo "$crate has no licence" >&2; exit 1; fi
-    mkdir "$room/licences/${crate%-*}"
-    cp "${notices[@]}" "$room/licences/${crate%-*}"
+    mkdir "$licences"
+    cp "${notices[@]}" "$licences"
 done
-sed -i 's/^directory = .*/directory = "vendor"/' "$made/.cargo/config.toml"
 cat > "$made/README" << END
 fhpgas $version by plain Rust. Needs Rust 1.85 or later and a linker.
 

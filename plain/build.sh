@@ -31,8 +31,7 @@ elif [ -z "$trusted" ]; then
 fi
 plain/workspace.py "$folder/workspace" ${trusted:+--proved "$trusted"}
 cd "$folder/workspace"
-offline=$([ ! -e .cargo/config.toml ] || echo --offline)
-RUSTFLAGS=${level:+-Ctarget-cpu=$level} cargo build --release --package engine ${QUIET:+--quiet} ${offline:+"$offline"} || { echo "$wants" >&2; exit 1; }
+RUSTFLAGS=${level:+-Ctarget-cpu=$level} cargo build --release --package engine ${QUIET:+--quiet} || { echo "$wants" >&2; exit 1; }
 cd - > /dev/null
 for file in "$folder"/workspace/target/release/{fhpgas,libfhpgas.so,libfhpgas.dylib,fhpgas.dll} include/fhpgas.h; do
     [ -e "$file" ] || continue

@@ -1,7 +1,7 @@
 #!/bin/bash
 # Builds FOLDER/module.wasm, the page's kernel, by plain Rust from the same sources: the calls of include/fhpgas.h as WebAssembly of 32 bits.
-# It trusts the proofs of these sources, which the gate proves, and is not proved. Ends with the compiler's version. Where Rust has no
-# library for this target, as Debian's, what the calls need of it is built from its sources (rust-web-src). wasm-ld is of Debian's lld.
+# It trusts the proofs of these sources, which the gate proves, and is not proved. Ends with the compiler's version. What the calls need of
+# Rust's library is built from its sources, because Debian has no library for this target. wasm-ld is of Debian's lld.
 set -euo pipefail
 if [ -z "${1-}" ]; then echo 'usage: plain/module.sh FOLDER' >&2; exit 2; fi
 mkdir -p "$1"
@@ -10,38 +10,33 @@ cd "$(dirname "$0")"
 target=wasm32-unknown-unknown
 
 # Debian's compiler before others, because the page in the repository is built by it
-rustc=''
-for one in /usr/bin/rustc rustc; do
-    root=$("$one" --print sysroot 2> /dev/null) || continue
-    sources=$root/lib/rustlib/src/rust/library
-    if [ -d "$root/lib/rustlib/$target/lib" ] || [ -d "$sources/core" ]; then rustc=$one && break; fi
+for rustc in /usr/bin/rustc rustc ''; do
+    sources=$("$rustc" --print sysroot 2> /dev/null)/lib/rustlib/src/rust/library || continue
+    [ ! -d "$sources/core" ] || break
 done
-[ -n "$rustc" ] || { echo "there is no Rust for $target, and none with its sources: apt-get install rustc-web rust-web-src" >&2; exit 1; }
+[ -n "$rustc" ] || { echo 'there is no Rust with the sources of its library: apt-get install rustc-web rust-web-src' >&2; exit 1; }
 version=$("$rustc" --version | cut -d ' ' -f 2)
 
 # Rust's library for the target, once for a compiler
-if [ ! -d "$root/lib/rustlib/$target/lib" ]; then
-    root=$folder/rust-$version
-    library=$root/lib/rustlib/$target/lib
-    edition=$(sed -n 's/^edition = "\(.*\)"/\1/p' "$sources/core/Cargo.toml")
-    built() {
-        RUSTC_BOOTSTRAP=1 "$rustc" --target "$target" --edition "$edition" --crate-type rlib --crate-name "$1" -O -C panic=abort \
-            --cap-lints allow -Z force-unstable-if-unmarked --sysroot "$root" -L "$library.new" --out-dir "$library.new" "$2"
-    }
-    if [ ! -d "$library" ]; then
-        mkdir -p "$library.new"
-        built core "$sources/core/src/lib.rs"
-        built compiler_builtins - <<< '#![feature(compiler_builtins)] #![compiler_builtins] #![no_std]'
-        built alloc "$sources/alloc/src/lib.rs"
-        mv "$library.new" "$library"
-    fi
+root=$folder/rust-$version
+library=$root/lib/rustlib/$target/lib
+edition=$(sed -n 's/^edition = "\(.*\)"/\1/p' "$sources/core/Cargo.toml")
+built() {
+    RUSTC_BOOTSTRAP=1 "$rustc" --target "$target" --edition "$edition" --crate-type rlib --crate-name "$1" -O -C panic=abort \
+        --cap-lints allow -Z force-unstable-if-unmarked --sysroot "$root" -L "$library.new" --out-dir "$library.new" "$2"
+}
+if [ ! -d "$library" ]; then
+    mkdir -p "$library.new"
+    built core "$sources/core/src/lib.rs"
+    built compiler_builtins - <<< '#![feature(compiler_builtins)] #![compiler_builtins] #![no_std]'
+    built alloc "$sources/alloc/src/lib.rs"
+    mv "$library.new" "$library"
 fi
 
 ./workspace.py "$folder/workspace" --proved "the sources of $(sed -n 's/^version: /fhpgas /p' ../CITATION.cff)"
 cd "$folder/workspace"
-offline=$([ ! -e .cargo/config.toml ] || echo --offline)
 flags="--sysroot $root -C linker=wasm-ld -C link-arg=-zstack-size=65536 -C target-feature=+simd128"
 RUSTC=$rustc CARGO_PROFILE_RELEASE_STRIP=true CARGO_PROFILE_RELEASE_LTO=true CARGO_TARGET_WASM32_UNKNOWN_UNKNOWN_RUSTFLAGS=$flags \
-    cargo build --release --quiet --package engine --lib --no-default-features --features trusting --target "$target" ${offline:+"$offline"}
+    cargo build --release --quiet --package engine --lib --no-default-features --features trusting --target "$target"
 cp "target/$target/release/fhpgas.wasm" "$folder/module.wasm"
 echo "$version"

@@ -24,7 +24,7 @@ TOKEN = re.compile(
     """,
     re.X | re.S,
 )
-GHOST = re.compile(r"^[ \t]*ghost[ \t]", re.M)
+GHOST = re.compile(r"^(?:[ \t]*///[^\n]*\n)*[ \t]*ghost[ \t]", re.M)
 CLAUSE = re.compile(r"^[ \t]*(requires|ensures)[ \t]+(?:[^\s{}]+[ \t]+)?(?=\{)", re.M)
 FUNCTION = re.compile(
     r'^[ \t]*(?:#\[doc = ".*"\] )?((?:pub(?:\(\w+\))? |const |extern "C" )*fn )', re.M
@@ -34,7 +34,7 @@ DERIVE = re.compile(r"#\[derive\(([^)]*)\)\]")
 # Words after which `[` begins a value or a type. Elsewhere it is an index if no space is before it.
 NOT_INDEXED = {"as", "dyn", "else", "if", "in", "match", "mut", "return"}
 BRACKETS = {"{": "}", "[": "]"}
-MACRO = re.compile(r"\b(assert|assert_eq|eprint|eprintln|format|print|unreachable|vec)!")
+MACROS = "assert, assert_eq, eprint, eprintln, format, print, unreachable, vec"
 
 
 class NotPlain(Exception):
@@ -69,22 +69,11 @@ def end_of_ghost(text: str, start: int) -> int:
     return follows.end() if follows else end
 
 
-def without_documentation(text: str) -> str:
-    """A text whose last lines, if they document what comes next, are plain comments."""
-    lines = text.split("\n")
-    for number in range(len(lines) - 2, -1, -1):
-        if not lines[number].lstrip().startswith("///"):
-            break
-        lines[number] = lines[number].replace("///", "// ", 1)
-    return "\n".join(lines)
-
-
 def without_proofs(text: str) -> str:
-    """Blanks ghost items, clauses, and what tells the prover how to go on."""
+    """Blanks ghost items with their documentation, clauses, and what tells the prover how to go on."""
     while found := GHOST.search(text):
         end = end_of_ghost(text, found.end())
-        kept = without_documentation(text[: found.start()])
-        text = kept + blank(text[found.start() : end]) + text[end:]
+        text = text[: found.start()] + blank(text[found.start() : end]) + text[end:]
     while found := TACTIC.search(text):
         end = end_of_group(text, found.end())
         text = text[: found.start()] + blank(text[found.start() : end]) + text[end:]
@@ -158,11 +147,8 @@ def with_runtime(text: str) -> str:
         flags=re.M,
     )
     return re.sub(
-        r"(#\[test\]\s*fn \w+\()\s*(\w+): HostRuntime,?\s*(\)[^{]*\{)",
-        lambda found: found[1]
-        + found[3]
-        + f" let {found[2]} = shim::rt::host();"
-        + "\n" * (found[0].count("\n") - found[1].count("\n") - found[3].count("\n")),
+        r"(#\[test\]\s*fn \w+\(\s*)(\w+): HostRuntime,?(\s*\)[^{]*\{)",
+        r"\1\3 let \2 = shim::rt::host();",
         text,
     )
 
@@ -198,17 +184,12 @@ def with_prelude(text: str, attribute: str) -> str:
     """An attribute of the crate, and the shim's names, on the line of the first item."""
     place = re.match(r"(?:\s+|//![^\n]*|// [^\n]*|//\n|#!\[[^\]]*\])*", text).end()
     begins = text.rfind("\n", 0, place) + 1
-    macros = ", ".join(sorted({found[1] for found in MACRO.finditer(text)}))
-    names = f"#[allow(unused_imports)] use shim::{{prelude::*, macros::{{{macros}}}}}; "
+    names = f"#[allow(unused_imports)] use shim::{{prelude::*, macros::{{{MACROS}}}}}; "
     return text[:begins] + attribute + names + text[begins:]
 
 
 def plain(text: str, attribute: str = "") -> str:
-    """The Rust of a Rattle source, line for line, with an attribute of its crate. Raises NotPlain if
-    a line would move."""
+    """The Rust of a Rattle source, line for line, with an attribute of its crate."""
     made = DERIVE.sub(derived, without_proofs(text))
     made = with_runtime(with_named_calls(with_marked_indices(made)))
-    made = with_prelude(with_calls_for_c(made), attribute)
-    if made.count("\n") != text.count("\n"):
-        raise NotPlain(f"{text.count(chr(10))} lines became {made.count(chr(10))}")
-    return made
+    return with_prelude(with_calls_for_c(made), attribute)

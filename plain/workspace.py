@@ -55,29 +55,28 @@ test = false
 # Rust's own ChaCha chooses the best instructions as it runs, where there is a system.
 PARTS = """
 [features]
-default = ["program"{more}]
+default = ["program"MORE]
 # The program `fhpgas`, which reads scenes. A program that only calls this library does without.
-program = [{program}]
+program = ["dep:arrayvec", "dep:clap", "dep:crossbeam-utils", "dep:thiserror", "dep:toml"]
 # Leaves out the test of each index, because it is proved in the sources that none is out of bounds.
 trusting = []
 
 [dependencies]
-rand_chacha = {{ version = "0.3", default-features = false }}
-rand_core = {{ version = "0.6", default-features = false }}
-arrayvec = {{ version = "0.7", optional = true }}
-clap = {{ version = "4", default-features = false, features = [{clap}], optional = true }}
-crossbeam-utils = {{ version = "0.8", optional = true }}
-thiserror = {{ version = "1", optional = true }}
-toml = {{ version = "0.5", optional = true }}
+rand_chacha = { version = "0.3", default-features = false }
+rand_core = { version = "0.6", default-features = false }
+arrayvec = { version = "0.7", optional = true }
+clap = { version = "4", optional = true, default-features = false, features = [
+    "std", "help", "usage", "error-context", "suggestions"
+] }
+crossbeam-utils = { version = "0.8", optional = true }
+thiserror = { version = "1", optional = true }
+toml = { version = "0.5", optional = true }
 
 [target.'cfg(not(target_arch = "wasm32"))'.dependencies]
 rand_chacha = "0.3"
 """
-OF_PROGRAM = "arrayvec", "clap", "crossbeam-utils", "thiserror", "toml"
-OF_CLAP = "std", "help", "usage", "error-context", "suggestions"
 FOR_INDEXES = """\
 description = "Bit-exact lattice gases: FHP-I, FHP with rest particles, and HPP"
-readme = "README.md"
 keywords = ["lattice-gas", "cellular-automata", "fluid", "simulation", "physics"]
 categories = ["science", "simulation"]
 """
@@ -107,12 +106,12 @@ fn main() {{
     }}
 }}
 """
-CONFIG = """\
+CONFIG = f"""\
 [source.crates-io]
 replace-with = "debian"
 
 [source.debian]
-directory = "{registry}"
+directory = "{DEBIAN}"
 """
 
 
@@ -180,13 +179,9 @@ def write_modules(name: str, to: pathlib.Path, modules: dict[str, str], attribut
 
 def write_packages(folder: pathlib.Path, proved: str | None) -> None:
     """The manifests, the licences and README of the crate."""
-    names = {"program": ", ".join(f'"dep:{name}"' for name in OF_PROGRAM)}
-    names["clap"] = ", ".join(f'"{name}"' for name in OF_CLAP)
-    own, address = PARTS.format(more="", **names), written(
-        "CITATION.cff", "^repository-code: (.+)$"
-    )
+    own, address = PARTS.replace("MORE", ""), written("CITATION.cff", "^repository-code: (.+)$")
     about = FOR_INDEXES + (f"repository = {json.dumps(address)}\n" if address else "")
-    trusting = PARTS.format(more=', "trusting"' if proved else "", **names)
+    trusting = PARTS.replace("MORE", ', "trusting"' if proved else "")
     manifests = {
         "fhpgas": about + BIN.format(place="") + own + WORKSPACE,
         "engine": BIN.format(place="../") + LIBRARY + trusting,
@@ -203,7 +198,7 @@ def write_packages(folder: pathlib.Path, proved: str | None) -> None:
     write(folder / "README.md", "\n".join(["# fhpgas\n", *said, ""]))
 
 
-def make(folder: pathlib.Path, proved: str | None = None, registry: pathlib.Path = DEBIAN) -> None:
+def make(folder: pathlib.Path, proved: str | None = None) -> None:
     uses = crates()
     tests = [name for name in uses if name.startswith("tests_")]
     library = ["shim", *sorted(below("gas_export", uses) & uses.keys())]
@@ -226,8 +221,8 @@ def make(folder: pathlib.Path, proved: str | None = None, registry: pathlib.Path
     write(folder / "checks/src/lib.rs", f"#![cfg(test)] #![allow(warnings)] {checks}\n")
     write(folder / "tests/front.rs", (ROOT / "tests/plain/front.rs").read_text())
     write_packages(folder, proved)
-    if any(registry.glob("clap-*")):
-        write(folder / ".cargo/config.toml", CONFIG.format(registry=registry))
+    if any(DEBIAN.glob("clap-*")):
+        write(folder / ".cargo/config.toml", CONFIG)
 
 
 def main() -> None:

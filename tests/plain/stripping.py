@@ -1,12 +1,10 @@
-#!/usr/bin/env python3
-"""Tries plain/strip.py on worked examples and on all sources. Ends with the counts."""
+"""Tries plain/strip.py on worked examples and on all sources."""
 
 import re
 import sys
-import unittest
 
-sys.path.append(f"{sys.path[0]}/../lib")
 import needs
+import pytest
 
 sys.path.append(str(needs.ROOT / "plain"))
 import strip
@@ -20,7 +18,7 @@ clauses:
   #[doc = "\\n\\nRequires `x ≡ 1`."] fn one(x: u32) -> u32\n{\n    x\n}
 ghost items:
   /// Of a proof.\nghost use A.{b, c};\nstruct S {\n    x: u8,\n    ghost fits: { x ≤ 3 },\n}
-  // Of a proof.\nstruct S {\n    x: u8,\n}
+  struct S {\n    x: u8,\n}
 attributes:
   #[tactic(auto, using(a [b]))]\n#[derive(Debug, Drop)]\nstruct S;\n#[derive(Drop)]\nstruct T;
   #[derive(Debug)]\nstruct S;\nstruct T;
@@ -55,34 +53,28 @@ def squeezed(text):
     return re.sub(r"\s*\n\s*\n*", "\n", re.sub(r" +", " ", text)).strip()
 
 
-class Strip(unittest.TestCase):
-    def test_examples(self):
-        lines = iter(EXAMPLES.strip().split("\n"))
-        for name, *texts in zip(lines, lines, lines, strict=True):
-            with self.subTest(name):
-                source, wanted = (LINE_END.sub("\n", text.strip()) + "\n" for text in texts)
-                wanted = wanted.replace(r"\\n", r"\n")
-                self.assertEqual(squeezed(strip.plain(source)), squeezed(wanted))
-
-    def test_lines_stay(self):
-        for path in SOURCES:
-            with self.subTest(path.name):
-                text = path.read_text()
-                made = strip.plain(text)
-                self.assertEqual(made.count("\n"), text.count("\n"))
-                self.assertIsNone(re.search(r"^\s*(ghost|requires|ensures)\b", made, re.M))
-
-    def test_no_requirement_is_lost(self):
-        for path in SOURCES:
-            with self.subTest(path.name):
-                text = path.read_text()
-                number = len(re.findall(r"^ +requires\b", text, re.M))
-                self.assertEqual(strip.plain(text).count("Requires `"), number)
-
-    def test_what_is_not_understood(self):
-        for source in "fn f()\n    requires { a {\n{ }\n", "#[tactic(a\n", "fn f() { a[1 }\n":
-            with self.subTest(source), self.assertRaises(strip.NotPlain):
-                strip.plain(source)
+LINES = iter(EXAMPLES.strip().split("\n"))
 
 
-needs.run_tests()
+@pytest.mark.parametrize("name, source, wanted", [*zip(LINES, LINES, LINES, strict=True)])
+def test_example(name, source, wanted):
+    source, wanted = (LINE_END.sub("\n", text.strip()) + "\n" for text in (source, wanted))
+    wanted = wanted.replace(r"\\n", r"\n")
+    assert squeezed(strip.plain(source)) == squeezed(wanted)
+
+
+@pytest.mark.parametrize("path", SOURCES, ids=lambda path: str(path.relative_to(needs.ROOT)))
+def test_lines_stay_and_no_requirement_is_lost(path):
+    text = path.read_text()
+    made = strip.plain(text)
+    assert made.count("\n") == text.count("\n")
+    assert not re.search(r"^\s*(ghost|requires|ensures)\b", made, re.M)
+    assert made.count("Requires `") == len(re.findall(r"^ +requires\b", text, re.M))
+
+
+NOT_PLAIN = "fn f()\n    requires { a {\n{ }\n", "#[tactic(a\n", "fn f() { a[1 }\n"
+
+
+@pytest.mark.parametrize("source", NOT_PLAIN)
+def test_what_is_not_understood(source):
+    pytest.raises(strip.NotPlain, strip.plain, source)

@@ -1,5 +1,4 @@
 //! Slices as C passes them: a pointer and a length. The caller owes what `include/fhpgas.h` says.
-#![allow(clippy::missing_safety_doc)]
 
 pub unsafe fn slice<'a, T>(first: *const T, length: usize) -> &'a [T] {
     // SAFETY: the caller's. C may pass any pointer with a length of 0.

@@ -11,30 +11,23 @@ use std::string::ToString;
 use std::vec::Vec;
 
 pub(crate) use super::macros::value_parser;
-pub use builder::ValueParser;
 pub use real::ArgAction;
 
 fn for_ever(text: &str) -> &'static str { Box::leak(text.to_owned().into_boxed_str()) }
 
 pub mod builder {
-    /// What the value of an option is read as: a number from the first to the last, or any.
-    pub enum ValueParser<'a> {
-        U32(std::ops::RangeInclusive<i64>, std::marker::PhantomData<&'a ()>),
-        U64,
-    }
+    pub use super::ValueParser;
 }
+
+/// What the value of an option is read as: a number, perhaps of 32 bits in a range.
+pub struct ValueParser<'a>(real::builder::ValueParser, PhantomData<&'a ()>);
 
 impl ValueParser<'_> {
-    pub fn any_u32() -> Self { ValueParser::U32(0..=u32::MAX.into(), PhantomData) }
-    pub fn range(self, range: RangeInclusive<i64>) -> Self { ValueParser::U32(range, PhantomData) }
-}
-
-impl From<ValueParser<'_>> for real::builder::ValueParser {
-    fn from(parser: ValueParser<'_>) -> Self {
-        match parser {
-            ValueParser::U32(range, _) => real::value_parser!(u32).range(range).into(),
-            ValueParser::U64 => real::value_parser!(u64).into(),
-        }
+    pub fn new(parser: impl Into<real::builder::ValueParser>) -> Self {
+        ValueParser(parser.into(), PhantomData)
+    }
+    pub fn range(self, range: RangeInclusive<i64>) -> Self {
+        ValueParser::new(real::value_parser!(u32).range(range))
     }
 }
 
@@ -56,7 +49,7 @@ impl<'a> Arg<'a> {
         value_name(name: &'a str) for_ever(name);
         help(text: &'a str) for_ever(text);
         action(action: ArgAction) action;
-        value_parser(parser: ValueParser<'a>) real::builder::ValueParser::from(parser);
+        value_parser(parser: ValueParser<'a>) parser.0;
         required(is_required: bool) is_required;
         num_args(range: RangeFrom<usize>) range;
     }

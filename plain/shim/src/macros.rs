@@ -19,14 +19,13 @@ macro_rules! shim_print {
     ($rt:expr; $($text:tt)*) => { $crate::shim::rt::print(&$rt, format_args!($($text)*)) };
 }
 macro_rules! shim_eprint {
-    ($rt:expr; $($text:tt)*) => { $crate::shim::rt::eprint(&$rt, format_args!($($text)*)) };
+    ($rt:expr; $($text:tt)*) => { ::std::io::Write::write_fmt(&mut ::std::io::stderr(), format_args!($($text)*)) };
 }
 macro_rules! shim_eprintln {
-    ($rt:expr; $($text:tt)*) => { $crate::shim::rt::eprint(&$rt, format_args!("{}\n", format_args!($($text)*))) };
+    ($rt:expr; $($text:tt)*) => { $crate::shim::macros::eprint!($rt; "{}\n", format_args!($($text)*)) };
 }
 macro_rules! shim_value_parser {
-    (u32) => { $crate::shim::clap::ValueParser::any_u32() };
-    (u64) => { $crate::shim::clap::ValueParser::U64 };
+    ($number:ident) => { $crate::shim::clap::ValueParser::new(::clap::value_parser!($number)) };
 }
 /// `main` of a program that takes the runtime. On Unix it is C's, because Rust's opens files in the
 /// places of standard streams that are closed.

@@ -7,7 +7,6 @@ use heap::string::{FromUtf8Error, String as Text};
 use heap::vec::Vec as List;
 
 /// One of Rust's collections, with the calls that the sources use.
-#[derive(PartialEq, Eq, PartialOrd, Ord)]
 pub struct Refusable<C>(pub(crate) C);
 
 pub type Vec<T> = Refusable<List<T>>;

@@ -53,7 +53,3 @@ pub fn print<R: ?Sized>(_: &R, text: Arguments<'_>) -> io::Result<()> {
     out.write_fmt(text)?;
     out.flush()
 }
-
-pub fn eprint<R: ?Sized>(_: &R, text: Arguments<'_>) -> io::Result<()> {
-    io::stderr().write_fmt(text)
-}

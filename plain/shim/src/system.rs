@@ -3,7 +3,6 @@
 pub mod time {
     use std::io;
     pub use std::time::Duration;
-    #[derive(Clone, Copy, Debug)]
     pub struct Instant(std::time::Instant);
     impl Instant {
         pub fn now<R>(_: &R) -> io::Result<Instant> { Ok(Instant(std::time::Instant::now())) }
@@ -29,8 +28,11 @@ pub mod env {
 pub mod fs {
     use std::io::{self, IsTerminal};
     pub struct Metadata(bool);
+    pub use {Metadata as FileTypeExt, Metadata as MetadataExt};
     impl Metadata {
         pub fn file_type(&self) -> &Metadata { self }
+        pub fn rdev(&self) -> u64 { 4 << 8 }
+        pub fn is_char_device(&self) -> bool { self.0 }
     }
     pub fn metadata<R>(_: &R, path: &str) -> io::Result<Metadata> {
         match path {
@@ -39,22 +41,10 @@ pub mod fs {
             _ => Err(io::ErrorKind::NotFound.into()),
         }
     }
-    pub trait MetadataExt {
-        fn rdev(&self) -> u64 { 4 << 8 }
-    }
-    impl MetadataExt for Metadata {}
-    pub trait FileTypeExt {
-        fn is_char_device(&self) -> bool;
-    }
-    impl FileTypeExt for Metadata {
-        fn is_char_device(&self) -> bool { self.0 }
-    }
 }
 
 pub mod os {
-    pub mod unix {
-        pub use super::super::fs;
-    }
+    pub use super::super::system as unix;
 }
 
 pub mod process {

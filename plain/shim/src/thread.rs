@@ -28,7 +28,6 @@ pub trait ScopeExt<'s> {
     fn spawn_with<T, P, F>(&'s self, promise: P, work: F) -> io::Result<PromisedHandle<T, P>>
     where
         T: Send + 's,
-        P: Promise<T>,
         F: FnOnce() -> T + Send + 's;
 }
 
@@ -36,7 +35,6 @@ impl<'s, 'e> ScopeExt<'s> for Scope<'s, 'e> {
     fn spawn_with<T, P, F>(&'s self, promise: P, work: F) -> io::Result<PromisedHandle<T, P>>
     where
         T: Send + 's,
-        P: Promise<T>,
         F: FnOnce() -> T + Send + 's,
     {
         let (sender, result) = sync_channel(1);
