@@ -19,19 +19,18 @@ import time
 import warnings
 import webbrowser
 from collections.abc import Callable
-from typing import Any, NoReturn
+from typing import Any, NoReturn, get_args
 
 import fhpgas
 
 from . import drawing
-from .fault import Fault, Parser, Usage, add_words, library, number, one_line_faults, to_write
-from .fault import whole, word
+from .fault import Fault, Usage, library
 from .files import is_npz, read_bytes, write_whole
 from .gas_table import GASES
-from .limits import DRIVES, FFMPEG, FIELDS, LAST_OF_SCENE, MOST_GENERATIONS, MOST_SEED
-from .limits import PARTICLES, PILLOW
+from .limits import DRIVES, FFMPEG, LAST_OF_SCENE, MOST_GENERATIONS, MOST_SEED, PILLOW, Quantity
 from .refusals import NOT_REFUSED
 from .scenes import naming
+from .words import Parser, add_words, number, one_line_faults, to_write, whole, word
 
 FIGURES, FILMS = (".png", ".svg", ".pdf"), PILLOW + FFMPEG
 UNITS = ("days", 86400), ("hours", 3600), ("minutes", 60), ("seconds", 1)
@@ -278,7 +277,7 @@ def numbers(asked: argparse.Namespace) -> None:
         print(f"{name.replace('_', ' '):16}{value:12.4g}")
 
 
-FIELDS_OF: dict[str, Any] = {"choices": (*FIELDS, PARTICLES)}
+FIELDS_OF: dict[str, Any] = {"choices": get_args(Quantity)}
 SCENE = word(kind=pathlib.Path, metavar="SCENE")
 SIDES: dict[str, Any] = {"nargs": 2, "metavar": ("COLUMNS", "ROWS")}
 FINITE, MANY = number(-1e300, 1e300), whole(0, LAST_OF_SCENE)

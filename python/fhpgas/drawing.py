@@ -16,10 +16,11 @@ from typing import Any
 
 import fhpgas
 
-from .fault import Fault, Usage, add_words, number, repeated, whole, word
+from .fault import Fault, Usage
 from .gas_table import CHIRALITIES, GASES
 from .limits import MOST_BYTES, MOST_SEED, MOST_SIDE, map_bytes
 from .scenes import text_of
+from .words import add_words, number, repeated, whole, word
 
 PLACE, SIDE = whole(0, MOST_SIDE), whole(1, MOST_SIDE)
 CORNER = number(-2 * MOST_SIDE, 2 * MOST_SIDE)

@@ -123,7 +123,7 @@ def driven(
             momentum = float(before.momentum[0])
             wanted = (flow or 0) * before.particles - momentum if force is None else force
             states, turned, given = kicks.kicked(before.states, wanted, force is not None)
-            after = before.replace(states=Cells(before.gas, states))
+            after = before._of(cells=Cells(before.gas, states))
             acts, velocity = given / every / before.fluid, (momentum + given / 2) / before.particles
             yield Point(before, after, turned, acts, velocity)
 

@@ -61,6 +61,7 @@ class Lattice(Value):
     """
 
     PARTS = "states", "solid", "gas", "chirality", "seed", "generation"
+    KEPT = "cells", "walls", *PARTS[2:]
     cells: Cells
     walls: Walls
     gas: Gas
@@ -77,23 +78,25 @@ class Lattice(Value):
         seed: int = 0,
         generation: int = 0,
     ):
-        named, walls = gas_named(gas), solid
-        given: Any = states if isinstance(states, Cells) else array_of("states", states)
-        if not isinstance(walls, Walls):
-            walls = Walls(np.zeros(given.shape, bool) if solid is None else mask(solid))
-        shape = given.shape
+        named, given = gas_named(gas), array_of("states", states)
+        walls, shape = np.zeros(given.shape, bool) if solid is None else mask(solid), given.shape
         is_of_cells = all(1 <= side <= limits.MOST_SIDE for side in shape) and len(shape) == 2
-        if not is_of_cells or walls.solid.shape != shape:
+        if not is_of_cells or walls.shape != shape:
             what = f"arrays [y, x] of one shape, 1 to {limits.MOST_SIDE} each way"
-            raise Fault(f"states and solid cells are {what}, not {shape} and {walls.solid.shape}")
-        cells = given if isinstance(given, Cells) else Cells(named, _states_of(given, named))
-        is_known = cells is states and walls is solid
-        if not is_known and (both := walls.solid & (cells.states > 0)).any():
+            raise Fault(f"states and solid cells are {what}, not {shape} and {walls.shape}")
+        cells = Cells(named, _states_of(given, named))
+        if (both := walls & (cells.states > 0)).any():
             (y, x), way = np.argwhere(both)[0], "numpy.where(solid, 0, states) clears such cells"
             raise Fault(f"row {y} column {x} is solid and contains a particle: {way}")
         generation = integer("a generation", generation, 0, limits.MOST_GENERATION)
-        values = cells, walls, named, chirality_named(chirality), seed_of(seed), generation
-        vars(self).update(zip(("cells", "walls", *self.PARTS[2:]), values))
+        values = cells, Walls(walls), named, chirality_named(chirality), seed_of(seed), generation
+        vars(self).update(zip(self.KEPT, values))
+
+    def _of(self, **parts: Any) -> "Lattice":
+        """The same lattice with other parts, which are known to fit the rest."""
+        made = object.__new__(Lattice)
+        vars(made).update({name: getattr(self, name) for name in self.KEPT} | parts)
+        return made
 
     @property
     def states(self) -> States:
@@ -163,10 +166,10 @@ class Lattice(Value):
         >>> fhpgas.Lattice([[1, 0]]).replace(states=[[0, 8]]).states.tolist()
         [[0, 8]]
         """
-        cells = self.states if "gas" in changes else self.cells
-        kept: dict[str, Any] = {"solid": self.walls, "states": cells}
-        kept |= {name: getattr(self, name) for name in self.PARTS[2:]}
-        return Lattice(**kept | changes)
+        made = Lattice(**{name: getattr(self, name) for name in self.PARTS} | changes)
+        same = ["walls"] * ("solid" not in changes)
+        same += ["cells"] * (not changes.keys() & {"states", "gas"})
+        return made._of(**{name: getattr(self, name) for name in same})
 
     def __array__(self, dtype: Any = None, copy: bool | None = None) -> Array:
         found = np.array(self.states, dtype) if copy else np.asarray(self.states, dtype)
@@ -316,11 +319,10 @@ class Lattice(Value):
         [[0, 2], [2, 1]]
         """
         integer("the generation at which a run begins", self.generation, 0, limits.LAST_OF_SCENE)
-        most = limits.MOST_GENERATIONS
-        generations = integer("the number of generations", generations, 0, most)
+        generations = integer("the number of generations", generations, 0, limits.MOST_GENERATIONS)
         planes = engine.advanced(self, generations, workers, progress)
         cells = Cells(self.gas, planes=planes, shape=self.shape)
-        return self.replace(states=cells, generation=self.generation + generations)
+        return self._of(cells=cells, generation=self.generation + generations)
 
     def coarse(
         self, generations: int, width: Side = 8, height: Side = 9, workers: int | None = None

@@ -1,23 +1,10 @@
-"""The names and limits of scenes and plans (docs/FORMATS.md), and of what is shown. It needs the
-standard library only."""
-
+"""Names and limits of scenes, plans (docs/FORMATS.md) and pictures, for the standard library."""
 from typing import Literal, TypeAlias
 
-Quantity: TypeAlias = Literal[
+Quantity: TypeAlias = Literal[  # of a picture: fields of blocks, and particles of a small lattice
     "speed", "east", "north", "vorticity", "density", "filling", "pressure", "particles"
 ]
 DRIVES = "rows", "directions"  # along which a force turns particles
-PLAIN, SIGNED, VELOCITY = "viridis", "RdBu_r", "cells per generation"
-FIELDS = {  # of blocks, with the unit and the colours
-    "speed": (VELOCITY, PLAIN),
-    "east": (VELOCITY, SIGNED),
-    "north": (VELOCITY, SIGNED),
-    "vorticity": ("1 per generation", SIGNED),
-    "density": ("particles per cell", PLAIN),
-    "filling": ("particles per direction", PLAIN),
-    "pressure": ("per cell", PLAIN),
-}
-PARTICLES = "particles"  # of a small lattice, also shown
 PILLOW, FFMPEG = (".gif", ".webp", ".apng"), (".mp4",)  # films, by what writes them
 MOST_SIDE, MOST_BLOCK, MOST_BYTES = 65536, 4096, 67_108_864
 MOST_SEED, MOST_GENERATIONS, LAST_OF_SCENE = 2**63 - 1, 1_000_000, 10**12

@@ -25,7 +25,7 @@ from .fields import positions, pair_checked
 from .files import Path, of_file, write_whole
 from .gases import Array
 from .lattice import Lattice
-from .limits import FFMPEG, FIELDS, PARTICLES, PILLOW, PLAIN, SIGNED, Quantity
+from .limits import FFMPEG, PILLOW, Quantity
 from .planes import block_ones, packed
 
 if TYPE_CHECKING:
@@ -37,6 +37,16 @@ Source: TypeAlias = Lattice | Blocks
 __all__ = ["film", "plot", "strip"]
 SMALL, MOST = 2_000, 20_000  # cells of a lattice that shows its particles unasked, and that can
 FINEST = 1024  # pixels of the solid cells each way
+PLAIN, SIGNED, VELOCITY = "viridis", "RdBu_r", "cells per generation"
+FIELDS = {  # of blocks, with the unit and the colours
+    "speed": (VELOCITY, PLAIN),
+    "east": (VELOCITY, SIGNED),
+    "north": (VELOCITY, SIGNED),
+    "vorticity": ("1 per generation", SIGNED),
+    "density": ("particles per cell", PLAIN),
+    "filling": ("particles per direction", PLAIN),
+    "pressure": ("per cell", PLAIN),
+}
 PALE, GREY, INK = "0.88", "0.55", "#1f4e79"
 IN_CELLS = {"angles": "xy", "scale_units": "xy", "units": "xy", "scale": 1, "minlength": 0}
 ARROW = {"width": 0.06, "headwidth": 3, "headlength": 3.5, "headaxislength": 3}
@@ -52,17 +62,17 @@ class Shown(NamedTuple):
 
 
 def chosen(source: Source, what: Any, block: tuple[int, int], smooth: float) -> tuple[Any, Shown]:
-    """What a picture shows if `what` is asked for: an array, the name of a field, or PARTICLES,
+    """What a picture shows if `what` is asked for: an array, the name of a field, or "particles",
     with its values."""
     if not isinstance(source, (Lattice, Blocks)):
         raise Fault(f"a picture is one of a Lattice or of Blocks, not of {reprlib.repr(source)}")
     cells = source.states.size if isinstance(source, Lattice) else MOST + 1
     if what is None:
-        what = PARTICLES if cells <= SMALL else "speed"
-    can = [*FIELDS, *[PARTICLES] * (cells <= MOST)]
+        what = "particles" if cells <= SMALL else "speed"
+    can = [*FIELDS, *["particles"] * (cells <= MOST)]
     if isinstance(what, str) and what not in can:
         raise Fault(f"there is no picture of {what!r} of {source!r}: {', '.join(can)}")
-    if isinstance(what, str) and what == PARTICLES:
+    if isinstance(what, str) and what == "particles":
         return what, Shown(source)
     sides = pair_checked(block, "a block")
     blocks = source if isinstance(source, Blocks) else source.blocks(*sides)

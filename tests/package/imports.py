@@ -1,17 +1,16 @@
 #!/usr/bin/env python3
 """Draws which module of the Python package and of the page imports which, with --draw as text: a module must not import itself through
 others, the data (lattice and blocks) must not import pictures, and nothing may use what another module of the package keeps private.
-Imports for types alone and inside of functions, such as of `plot`, are of what comes later and count for nothing. Ends with the counts."""
+Imports for types alone and inside of functions, such as of `plot`, are of what comes later and count for nothing."""
 
 import ast
 import graphlib
+import pathlib
 import re
 import sys
 
-sys.path.append(f"{sys.path[0]}/../lib")
-import needs
-
-PACKAGE, PAGE = needs.ROOT / "python/fhpgas", needs.ROOT / "page/src"
+ROOT = pathlib.Path(__file__).resolve().parents[2]
+PACKAGE, PAGE = ROOT / "python/fhpgas", ROOT / "page/src"
 APART = [("lattice", "pictures"), ("blocks", "pictures"), ("reader", "lattice")]  # may not reach
 
 
@@ -74,34 +73,22 @@ def reached(graph, start):
     return found
 
 
-def cycle(graph):
-    """The modules of a cycle, or None."""
-    try:
+def test_package_and_page_have_no_cycle_of_imports():
+    for graph in package()[0], page():
         graphlib.TopologicalSorter(graph).prepare()
-    except graphlib.CycleError as fault:
-        return " -> ".join(reversed(fault.args[1]))
-    return None
 
 
-def checks():
-    """What must be, and what is wrong with it, or nothing."""
-    graph, private = package()
-    yield "the package has no cycle of imports", cycle(graph)
-    yield "the page has none", cycle(page())
-    yield "no module of the package uses what another keeps private", ", ".join(private)
+def test_no_module_of_the_package_uses_what_another_keeps_private():
+    assert not package()[1]
+
+
+def test_modules_that_are_apart_do_not_reach_one_another():
+    graph = package()[0]
     for one, other in APART:
-        assert {one, other} <= graph.keys()
-        yield f"{one} does not reach {other}", other if other in reached(graph, one) else None
+        assert {one, other} <= graph.keys() and other not in reached(graph, one)
 
 
-def main():
-    if sys.argv[1:] == ["--draw"]:
-        for graph in package()[0], page():
-            for name, below in graph.items():
-                print(f"{name}: {' '.join(sorted(below))}")
-        return 0
-    return needs.tell_wrong(checks())
-
-
-if __name__ == "__main__":
-    sys.exit(main())
+if __name__ == "__main__" and sys.argv[1:] == ["--draw"]:
+    for graph in package()[0], page():
+        for name, below in graph.items():
+            print(f"{name}: {' '.join(sorted(below))}")
