@@ -13,15 +13,15 @@ for name in ("numpy", "scipy"):
 
 import fhpgas
 import numpy as np
-from fhpgas import fault, theory
+from fhpgas import theory
+from fhpgas.words import Parser, number, one_line_faults, to_write, whole, word
 
-number, whole = fault.number, fault.whole  # types of options
 GASES = sorted(fhpgas.GASES, key=lambda name: fhpgas.GASES[name].is_square)
 FLUIDS = [name for name in GASES if not fhpgas.GASES[name].is_square]
 warnings.simplefilter("ignore", theory.Correlated)  # what is measured is printed beside
 
 
-class Options(fault.Parser):
+class Options(Parser):
     """The command line of a script, whose faults are one line. `--small` chooses other defaults,
     with which the tests run the experiment. If it takes gases, the usual one is fhp1."""
 
@@ -30,7 +30,7 @@ class Options(fault.Parser):
         self.is_small = "--small" in sys.argv[1:]
         text = "other defaults: a run of some seconds"
         self.add_argument("--small", action="store_true", help=text)
-        file = fault.to_write(".png", ".pdf", ".svg")
+        file = to_write(".png", ".pdf", ".svg")
         self.word("--picture", f"draw {figure}: .png, .pdf, .svg", file, metavar="FILE")
         if gases:
             self.word("--gas", default=usual, choices=gases)
@@ -45,7 +45,7 @@ class Options(fault.Parser):
         self.word(name, text, kind, value, **more)
 
     def word(self, name, *words, **more):
-        self.add_argument(name, **fault.word(*words, **more))
+        self.add_argument(name, **word(*words, **more))
 
     def filling(self, least, most, usual):
         self.option("--filling", number(least, most), *[usual] * 2, "the filling d", metavar="D")
@@ -62,7 +62,7 @@ class Options(fault.Parser):
 def experiment(main):
     """Runs the last function of the script that was started, whose faults are one line."""
     if main.__module__ == "__main__":
-        with fault.one_line_faults(pathlib.Path(sys.argv[0]).name):
+        with one_line_faults(pathlib.Path(sys.argv[0]).name):
             main()
 
 

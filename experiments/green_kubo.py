@@ -55,7 +55,7 @@ def sound(amplitudes, modes):
 def draw(path, asked, runs, kept, pairs, matrix):
     (mean, error), lags = fhpgas.mean_and_error([run[0] for run in runs]), np.arange(asked.lags + 1)
     frequencies, powers = welch([run[1][:, 0] for run in runs], nperseg=512, axis=1)
-    w, power = 2 * np.pi * frequencies[1:], powers.mean(0)[1:]
+    w, (power, spread) = 2 * np.pi * frequencies[1:], fhpgas.mean_and_error(powers[:, 1:])
     steps = np.linalg.inv(np.eye(len(matrix)) - np.exp(1j * w)[:, None, None] * matrix)
     lines = steps.real.sum((1, 2)) - len(matrix) / 2
     with common.axes(path, 1, 2, (5, 3.8)) as (left, right):
@@ -63,9 +63,9 @@ def draw(path, asked, runs, kept, pairs, matrix):
         left.plot(lags, kept**lags, "C1", lw=1, label="Boltzmann")
         left.plot(lags[1:], 4 * np.diff(pairs), "C2", lw=1, label="with pairs")
         left.set(xlabel="generations", ylabel="C(t) / C(0)", yscale="log", ylim=(3e-4, 1.2))
-        left.set_title(f"stress, {asked.gas}, d = {asked.filling}, {asked.seeds} seeds")
-        right.semilogy(w, power / power.mean(), "C0.", label="measured")
-        right.plot(w, lines / lines.mean(), "C1", lw=1, label="Boltzmann")
+        left.set_title(f"{asked.gas}, d = {asked.filling}, {SIDE}² cells, {asked.seeds} seeds")
+        right.errorbar(w, *(power, spread) / power.mean(), fmt="C0.", label="measured")
+        right.semilogy(w, lines / lines.mean(), "C1", lw=1, label="Boltzmann")
         right.set(xlabel="frequency", ylabel="noise of density", xlim=(0, 0.4), ylim=(1e-3, 300))
         left.legend(), right.legend()
 

@@ -70,7 +70,7 @@ def draw(path, asked, waves, found):
         shown = right.pcolormesh(*np.moveaxis(vectors, -1, 0), most)
         right.figure.colorbar(shown, label="largest factor, modulus")
         right.set(xlabel="wave number eastwards", ylabel="northwards", aspect="equal")
-        left.legend(fontsize=8)
+        left.legend(fontsize=8, title=f"{asked.seeds} seeds of {CELLS} cells", title_fontsize=8)
 
 
 @common.experiment

@@ -11,7 +11,7 @@ Re) (A. Roshko, NACA Report 1191, 1954) and sheds vortices from about Re = 47 on
 import common
 import fhpgas
 import numpy as np
-from fhpgas import fault, theory
+from fhpgas import theory
 
 GAS, FILLING, FIRST, BLOCK = "fhp-rest", 0.18, 47, (8, 9)
 
@@ -129,7 +129,7 @@ def main():
     reader.option("--part", common.whole(10, 10_000), 200, 50, text)
     reader.option("--seed", common.whole(0, 2**31), 1, 1, "of the gas")
     text = "keep the last lattice as a scene: .toml"
-    reader.word("--scene", text, fault.to_write(".toml"), metavar="FILE")
+    reader.word("--scene", text, common.to_write(".toml"), metavar="FILE")
     asked = reader.parse_args()
     street = Street(asked)
     columns, rows = street.size
