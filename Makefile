@@ -2,7 +2,7 @@
 #
 #   make                  builds fhpgas for this machine (CPU=x86-64-v2: for that level) and the engine
 #   make engine           builds the engine for Python and C, python/fhpgas/libfhpgas-*.so, and for the page, page/engine.js, if wasm-opt is here
-#   make quick            runs the tests for the time between edits, which prove nothing
+#   make quick            runs the tests for the time between edits, which prove nothing (one case: pytest tests/program -k NAME)
 #   make package          runs the tests of the package, the notebook and the page, on the program that FHPGAS names
 #   make test             sets up what is missing (SETUP=no: nothing), proves all from scratch, and runs every test
 #   make install          puts what is built into PREFIX (/usr/local): the program, and the header and the library for C; make uninstall removes it

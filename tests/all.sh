@@ -1,17 +1,30 @@
 #!/bin/bash
-# The tests, as `make quick`, `make package` and `make test` call them. Ends with the counts. `make test` leaves a record in out/record.
+# The tests, as `make quick`, `make package` and `make test` call them: files, with options of tests/conftest.py. The last line counts all.
+# `make test` leaves a record in out/record.
 . "$(dirname "$0")/lib/try.sh"
 set -o pipefail
 program=crates/fhpgas/out/fhpgas
 checked=$PWD/out/checked/fhpgas
-package=(package/{lattices,blocks,drawing,flows,processes}.py) # the tests of the package that runs lattices
+package=(tests/package/{lattices,blocks,drawing,flows,processes,commands,explanations}.py) # the tests of the package that runs lattices
+touch "$room/parts"
 
-parts() { local name; for name; do part "tests/$name"; done; }
+# tests WORDS..: pytest's tests in these files, beside one another, and then those that want the machine alone
+tests() {
+    local mark words status
+    for mark in 'not alone' alone; do
+        words=("$@") status=0
+        [ "$mark" = alone ] || words+=(-n "$(nproc)")
+        pytests -m "$mark" "${words[@]}" 2>&1 | tee "$room/log" || status=$?
+        [ $status = 5 ] || echo "$*: $(tail -n 1 "$room/log")" >> "$room/parts" # 5: there is none
+        [ $status = 5 ] || [ $status = 0 ] || bad+=("$*")
+    done
+}
 
 # sources: what needs no program
 sources() {
-    parts set_up/lint.sh package/{imports,derivation,tested_functions}.py
-    part pytests tests/documents/{links,sentences_and_words,definitions,proved}.py tests/program/code_without_contract.py
+    tests tests/scripts.py -k lint
+    tests tests/documents/{links,sentences_and_words,definitions,proved}.py tests/program/code_without_contract.py \
+        tests/package/{imports,derivation,tested_functions}.py
 }
 
 # examples NAME..: whether the sources print what these worked examples want, compiled once and without a proof
@@ -26,31 +39,27 @@ examples() {
 quick() {
     sources
     if [ -n "${FHPGAS-}" ] || make -sq "$program"; then
-        part pytests tests/program/{command_line,help,mutated_scenes}.py tests/documents/printed_commands.py --scenes 300
-        parts package/explanations.py "${package[@]}" package/commands.py
+        tests tests/program/{command_line,help,mutated_scenes}.py tests/documents/printed_commands.py "${package[@]}" --scenes 300
     elif has rt 'the program'; then
-        part examples check_rectangles head_on_left obstacle_1 seeded_pairs filling coarse_uneven replay_done
+        try 'the worked examples' examples check_rectangles head_on_left obstacle_1 seeded_pairs filling coarse_uneven replay_done
     fi
 }
 
-# package: the package, the notebook, the page and the experiments, on the program that FHPGAS names, or on the engine and what make built.
-# Without the kit and a program it is what plain Rust builds.
+# package: the package, the notebook, the page and the experiments, on the program that FHPGAS names, or on the engine and what make built
 package() {
-    part pytests tests/documents/printed_commands.py
-    parts package/engine.py "${package[@]}" package/commands.py package/explanations.py package/wheel.py package/notebook.py page/browser.py
-    ! has node "the page's kernel" || { part node tests/page/kernel.mjs; part tests/plain/calls.py page; part node tests/page/model.mjs; }
-    parts package/tiles.py package/experiments.py
+    tests tests/documents/printed_commands.py "${package[@]}" tests/package/{engine,notebook,experiments,wheel,tiles}.py tests/page/browser.py
+    tests tests/scripts.py -k page
+    tests tests/plain/calls.py -k modules
 }
 
 # plain: builds the sources by plain Rust, without the kit, with every check on, and tries them: the crates' own tests, the program, the
 # library beside the proved one, what differs, the crate for Rust, and the line under sanitizers
 plain() {
     has cargo 'plain Rust' || return 0
-    parts plain/stripping.py plain/crates.sh
-    part plain/build.sh out/checked checked
-    FHPGAS=$checked parts plain/calls.py plain/differences.py plain/front.sh
-    FHPGAS=$checked part pytests tests/program/{command_line,mutated_scenes}.py --scenes 300
-    part tests/plain/sanitizers.py Sanitized.test_threads # the other sanitizer is for a release
+    try 'plain Rust builds' plain/build.sh out/checked checked
+    FHPGAS=$checked tests tests/scripts.py -k 'crates or front'
+    FHPGAS=$checked tests tests/plain/{stripping,differences}.py tests/program/{command_line,mutated_scenes}.py --scenes 300
+    tests tests/plain/{calls,sanitizers}.py -k 'libraries or threads' # the other sanitizer is for a release
 }
 
 # gate: proves every crate from scratch, tries the wrong bodies of must-fail/ one by one, and runs the tests and the stored runs of the
@@ -65,10 +74,17 @@ gate() {
     fi
 }
 
+set_up() {
+    tests/set_up/install.sh || exit 1
+    "$(tests/lib/needs.py | sed -n 1p)" -c 'import pytest, xdist' 2> /dev/null && return
+    echo 'tests: the tests want pytest: apt-get install python3-pytest python3-pytest-xdist' && exit 1
+}
+
+bad=()
 case $1 in
     quick) quick ;;
     package)
-        tests/set_up/install.sh || exit 1
+        set_up
         if [ -z "${FHPGAS-}" ] && [ -e crates.txt ] && ! command -v rt > /dev/null && ! make -sq "$program"; then
             plain
             export FHPGAS=$checked # the only program that this machine can build
@@ -77,28 +93,33 @@ case $1 in
         ;;
     test)
         unset FHPGAS # what is built here is tried
-        tests/set_up/install.sh || exit 1
+        set_up
         sources
-        parts set_up/missing_libraries.sh set_up/makefile.sh
-        part pytests tests/program/lost_wake_ups.py
-        [ ${#failed[@]} = 0 ] || exit 1
+        tests tests/scripts.py -k 'missing_libraries or makefile'
+        tests tests/program/lost_wake_ups.py
+        [ ${#bad[@]} = 0 ] || exit 1
         if has rt 'the proofs, and the tests of help, terminal, refused memory, library, release and first change'; then
             gate
-            part pytests tests/program/wrong_bodies.py --gate "$room/gate"
-            part make -s engine
+            tests tests/program/wrong_bodies.py --gate "$room/gate"
+            try 'the engine is built' make -s engine
             plain
-            part pytests tests/program/{help,refused_memory}.py tests/documents/library.py
-            part alone tests/program/terminal.py tests/documents/first_change.py
-            part tests/set_up/release.sh
+            tests tests/program/{help,refused_memory,terminal}.py tests/documents/{library,first_change}.py
+            tests tests/scripts.py -k release
         else
             plain
             export FHPGAS=$checked
         fi
-        part pytests tests/program/{command_line,cells_beside_{c,golly},reference_scenes,mutated_scenes}.py tests/documents/version.py --scenes 5000
-        part alone tests/program/{large_scenes,largest_sizes}.py
+        tests tests/program/{command_line,cells_beside_{c,golly},reference_scenes,mutated_scenes,large_scenes,largest_sizes}.py \
+            tests/documents/version.py --scenes 5000
         package
         mkdir -p out
         [ -n "${FHPGAS-}" ] || tests/set_up/record.py "$room/gate" "$room/parts" "$SECONDS" > out/record
         ;;
 esac
-tell || [ $? = 77 ]
+[ ${#bad[@]} = 0 ] || printf 'FAILED in: %s\n' "${bad[@]}"
+[ ${#failed[@]} = 0 ] || printf 'FAILED: %s\n' "${failed[@]}"
+[ ${#left_out[@]} = 0 ] || printf 'left out: %s\n' "${left_out[@]}"
+awk -v passed="$passed" -v failed="${#failed[@]}" -v out="${#left_out[@]}" '
+    { gsub(",", ""); for (i = 2; i <= NF; i++) { n[$i] += $(i - 1) } }
+    END { print passed + n["passed"] " passed, " failed + n["failed"] + n["error"] + n["errors"] " failed, " out + n["skipped"] " left out" }' "$room/parts"
+[ ${#bad[@]} = 0 ] && [ ${#failed[@]} = 0 ]

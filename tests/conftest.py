@@ -2,20 +2,22 @@
 
 import os
 import shutil
+import subprocess
 
 import needs
 import pytest
 
-
 HAS_SOURCES = (needs.ROOT / "crates.txt").exists()  # an unpacked archive has none
-collect_ignore = (
-    [] if HAS_SOURCES else ["program/code_without_contract.py", "program/refused_memory.py"]
-)
+OF_SOURCES = ["plain", "program/code_without_contract.py", "program/refused_memory.py"]
+collect_ignore = [] if HAS_SOURCES else OF_SOURCES
 
 
 def pytest_addoption(parser):
     parser.addoption("--scenes", type=int, default=3000, help="how many random scenes to read")
     parser.addoption("--mebibytes", type=float, default=1, help="how large the large texts are")
+    parser.addoption("--keep", action="store_true", help="the notebooks keep what they show")
+    parser.addoption("--wheel", help="a wheel for Linux, instead of those of what make built")
+    parser.addoption("--libraries", nargs=2, help="two libraries of include/fhpgas.h")
     parser.addoption("--gate", help="the log of rt ci, which tried the wrong bodies")
 
 
@@ -27,8 +29,17 @@ def pytest_collection_modifyitems(items):
 def pytest_runtest_makereport(item):
     """Where CI is true what is skipped has failed, unless its mark says otherwise."""
     report = (yield).get_result()
-    may_be = item.get_closest_marker("may_be_left_out") or os.environ.get("CI") != "true"
-    if report.skipped and not may_be:
+    if not item.get_closest_marker("may_be_left_out"):
+        refuse_skip(report)
+
+
+@pytest.hookimpl(hookwrapper=True)
+def pytest_make_collect_report():
+    refuse_skip((yield).get_result())
+
+
+def refuse_skip(report):
+    if report.skipped and os.environ.get("CI") == "true":
         report.outcome, report.longrepr = "failed", f"left out: {report.longrepr[2]}"
 
 
@@ -36,6 +47,13 @@ def pytest_runtest_makereport(item):
 def program():
     """The path of the program that FHPGAS names or rt left."""
     return needs.built_program()
+
+
+@pytest.fixture(scope="session")
+def checked():
+    """Skips a test if plain Rust has not built what looks at each index."""
+    if not (needs.ROOT / "out/checked/fhpgas").exists():
+        pytest.skip("plain/build.sh out/checked checked was not run")
 
 
 @pytest.fixture(scope="session")
@@ -56,7 +74,8 @@ def compiled(tool, tmp_path_factory):
     def made(source, *words):
         tool("cc")
         path = tmp_path_factory.mktemp("c") / "made"
-        needs.compiled(f"tests/program/{source}", path, *words)
+        words = ["cc", "-Wall", "-o", path, needs.ROOT / "tests/program" / source, *words]
+        subprocess.run(words, check=True)
         return path
 
     return made

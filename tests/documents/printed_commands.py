@@ -66,11 +66,8 @@ def with_launcher(room):
 
 
 @pytest.mark.sources
-@pytest.mark.skipif(
-    not (PLAIN / "fhpgas").exists(), reason="plain/build.sh out/checked checked was not run"
-)
 @pytest.mark.parametrize("name", FIRST)
-def test_by_launcher(room, name):
+def test_by_launcher(checked, room, name):
     document = next(it for it in DOCUMENTS if it.name == name)
     follow(document, room, with_launcher(room))
 

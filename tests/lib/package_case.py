@@ -2,17 +2,15 @@
 
 import math
 import os
-import pathlib
-import tempfile
-import unittest
 
 import needs
+import numpy as np
+import pytest
 
 needs.libraries()
 PROGRAM = needs.built_program()
 os.environ["PYTHONPATH"] = str(needs.ROOT / "python")
 import fhpgas  # noqa: E402 - finds the program by the lines above
-import numpy as np  # noqa: E402
 
 GASES, ROOT3 = tuple(fhpgas.GASES), math.sqrt(3)
 AREA = 'gas = "fhp1"\nseed = 7\nwidth = 66\nheight = 9\nrate = 300\nsolid = [[20, 2, 3, 4]]\n'
@@ -33,24 +31,16 @@ def wind(size, gas="fhp1", chirality="seeded", solid=None):
     )
 
 
-class Case(unittest.TestCase):
-    def fault(self, part, function, *words):
-        """The call has a Fault of one line with this part."""
-        with self.assertRaises(fhpgas.Fault) as caught:
-            function(*words)
-        self.assertIsInstance(caught.exception, ValueError)
-        self.assertIn(part, str(caught.exception))
-        self.assertNotIn("\n", str(caught.exception))
-
-    def same(self, found, wanted, places=12):
-        """Both are arrays of one shape whose numbers are close, with nan where the other has it."""
-        np.testing.assert_allclose(
-            np.asarray(found, float), np.asarray(wanted, float), rtol=0, atol=10.0**-places
-        )
+def fault(part, function, *words):
+    """The call has a Fault of one line with this part."""
+    with pytest.raises(fhpgas.Fault) as caught:
+        function(*words)
+    assert isinstance(caught.value, ValueError)
+    assert part in str(caught.value) and "\n" not in str(caught.value)
 
 
-class Package(Case):
-    """Each test has a folder of its own."""
-
-    def setUp(self):
-        self.room = pathlib.Path(self.enterContext(tempfile.TemporaryDirectory()))
+def same(found, wanted, places=12):
+    """Both are arrays of one shape whose numbers are close, with nan where the other has it."""
+    np.testing.assert_allclose(
+        np.asarray(found, float), np.asarray(wanted, float), rtol=0, atol=10.0**-places
+    )

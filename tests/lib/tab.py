@@ -4,9 +4,6 @@ import json
 import time
 
 import needs
-
-needs.command("chromium")
-needs.libraries("selenium")
 from selenium import webdriver
 from selenium.webdriver.common.action_chains import ActionChains
 from selenium.webdriver.common.by import By
@@ -27,10 +24,6 @@ NAMES = (
     " solid = head && head.width * head.height - head.fluid,"
     " controls = [...document.querySelectorAll('button, select, input')].filter((e) => e.id !== 'file');"
 )
-
-
-class Late(Exception):
-    """What was waited for did not come."""
 
 
 class Page:
@@ -71,7 +64,7 @@ class Page:
         end = time.monotonic() + needs.PATIENCE
         while not (found := self.now(condition)):
             if time.monotonic() > end:
-                raise Late(f"{condition} did not come: {self.now('notes')}")
+                raise TimeoutError(f"{condition} did not come: {self.now('notes')}")
             time.sleep(0.02)
         return found
 
@@ -145,7 +138,7 @@ class Page:
                 if file.stat().st_size:
                     return file.read_bytes()
             time.sleep(0.05)
-        raise Late(f"{button} saved nothing")
+        raise TimeoutError(f"{button} saved nothing")
 
     def open(self, text):
         file = self.room / "given.toml"

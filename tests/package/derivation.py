@@ -1,24 +1,34 @@
-#!/usr/bin/env python3
 """Checks each formula of docs/DERIVATION.md, as it is printed there, against the Boltzmann equation
 of the package, for several fillings, and the slip and the viscosity at a wave number against the
-modes of a generation. Ends with the counts."""
+modes of a generation."""
 
-import sys
-import warnings
-
-sys.path.append(f"{sys.path[0]}/../lib")
 import needs
+import pytest
 
 needs.libraries()
 import numpy as np  # noqa: E402
 from fhpgas import Fault, boltzmann, equilibrium, gas_named, theory  # noqa: E402
 from fhpgas.gases import DRIVES  # noqa: E402
 
-warnings.simplefilter("ignore", theory.Correlated)
+pytestmark = pytest.mark.filterwarnings("ignore::fhpgas.theory.Correlated")
 GAS, FORCE = gas_named("fhp1"), 1e-8
 X, Y = GAS.velocities.T
 FILLINGS = 0.05, 0.1, 0.3, 0.5, 0.7
 STAGGERED = np.array([1, -1, 1, -1, 1, -1])
+SEEDED = ("fhp1", 0.3, "seeded"), ("fhp1", 0.1, "seeded"), ("fhp-rest", 0.2, "seeded")
+GASES = *SEEDED, ("fhp1", 0.3, "left")
+REFUSED = [
+    *(
+        (boltzmann.pair_closure, "fhp1", *words)
+        for words in ((1, X), (0.1, X[:5]), (0.1, [1j] * 6))
+    ),
+    (boltzmann.pair_closure, "fhp1", 0.1, X, "up"),
+    (boltzmann.pair_closure, "fhp1", 0.1, X, "left", 2),
+    (boltzmann.pair_closure, "fhp1", 0.1, X, "left", 1, 1),
+    (theory.pair_viscosity, "hpp", 0.1, 9),
+    (theory.pair_viscosity, "fhp1", 0.1, -1),
+    *((theory.running_viscosity, stress) for stress in ([], [0, 1], ["a"], 1)),
+]
 
 
 def share(d):
@@ -53,12 +63,14 @@ def staggered_of(number):
     return np.where(np.arange(number) < 6, (-1.0) ** np.arange(number), 0)
 
 
-def sums(d):
+@pytest.mark.parametrize("d", FILLINGS)
+def test_sums(d):
     """The sums over the directions at the top of the page."""
     is_close([(X**2).sum(), (Y**2).sum(), X @ Y, (X**2) @ Y**2], [3, 3, 0, 3 / 4])
 
 
-def shares(d):
+@pytest.mark.parametrize("d", FILLINGS)
+def test_shares(d):
     """2. What a collision undoes: shear, staggered, chiral, and what is conserved."""
     collide = lambda n, side="seeded": boltzmann.collision_matrix("fhp1", d, side) @ n
     shear, turned = np.array([1, -1 / 2, -1 / 2] * 2), np.exp(2j * np.pi / 3 * np.arange(6))
@@ -71,14 +83,16 @@ def shares(d):
     is_close(np.sort(factors_of("fhp1", d, (0, 0)).real), np.sort(left), 1e-7)
 
 
-def sound(d):
+@pytest.mark.parametrize("d", FILLINGS)
+def test_sound(d):
     """3. The speed of the waves that move, at a small wave number."""
     for gas, square in ("fhp1", 1 / 2), ("fhp-rest", 3 / 7):
         angles = np.sort(np.angle(factors_of(gas, d, (1e-4, 0))[:3]))
         is_close(angles / 1e-4, np.array([-1, 0, 1]) * square**0.5, 1e-5)
 
 
-def shear(d):
+@pytest.mark.parametrize("d", FILLINGS)
+def test_shear(d):
     """4. The state of a uniform shear comes back after a generation, and its flux of momentum is that of the viscosity."""
     collide = np.eye(6) + boltzmann.collision_matrix("fhp1", d)
     state = lambda y: 2 * d * y * X - 2 * d / share(d) * X * Y
@@ -94,7 +108,8 @@ def shear(d):
     is_close(left.imag, theory.odd_viscosity("fhp1", d, "left"))
 
 
-def noise(d):
+@pytest.mark.parametrize("d", FILLINGS)
+def test_noise(d):
     """5. The sum of Green and Kubo over the correlation that the collisions leave."""
     stress, generation = X * Y, np.eye(6) + boltzmann.collision_matrix("fhp1", d)
     left, correlations = d * (1 - d) * stress, []
@@ -107,7 +122,8 @@ def noise(d):
     is_close(theory.running_viscosity(correlations)[-1], viscosity(d), 1e-6)
 
 
-def factor(d):
+@pytest.mark.parametrize("d", FILLINGS)
+def test_factor(d):
     """6. The flux xy of a slow wind at equilibrium, and the second order that carries it."""
     u, g = np.array([0.002, 0.001]), (1 - 2 * d) / (2 * (1 - d))
     chances = equilibrium("fhp1", d, *u)
@@ -117,7 +133,8 @@ def factor(d):
     is_close(theory.galilean_factor("fhp1", d), g)
 
 
-def at_a_wave_number(d):
+@pytest.mark.parametrize("d", FILLINGS[:4])
+def test_at_a_wave_number(d):
     """A weak shear wave decays by the factor of its mode, with walls and without, and in a long wave with the viscosity."""
     rows, size = 64, 1e-6
     k = np.pi / rows / GAS.row_distance
@@ -132,7 +149,8 @@ def at_a_wave_number(d):
     is_close(-np.log(slow) / 1e-8, viscosity(d), 1e-4)
 
 
-def at_the_edge(gas):
+@pytest.mark.parametrize("gas", ("fhp1", "fhp-rest"))
+def test_at_the_edge(gas):
     """Three waves at the edge of the zone of wave vectors never fade: the staggered momenta, one per axis."""
     for angle in np.pi / 6 + np.pi / 3 * np.arange(3):
         wave = 2 * np.pi / 3**0.5 * np.array([np.cos(angle), np.sin(angle)])
@@ -141,7 +159,9 @@ def at_the_edge(gas):
         assert np.sort(abs(factors))[-2] < 1 - 1e-3, factors
 
 
-def slip(gas, d, side, along):
+@pytest.mark.parametrize("along", DRIVES)
+@pytest.mark.parametrize("gas, d, side", GASES)
+def test_slip(gas, d, side, along):
     """7. The stationary flow under a weak force: the staggered sum, the parabola, its place at the wall, with the shares of the modes."""
     rows, flow = 10, boltzmann.Flow(gas, np.zeros((10, 1)), side)
     x, mass = flow.gas.velocities[:, 0], flow.gas.directions * d
@@ -170,7 +190,8 @@ def slip(gas, d, side, along):
     is_close(theory.slip(gas, d, side, along), K)
 
 
-def short_waves(gas, d, side):
+@pytest.mark.parametrize("gas, d, side", (*GASES, ("fhp-rest", 0.5, "seeded")))
+def test_short_waves(gas, d, side):
     """8. What a shear wave loses of its viscosity because the particles along it wait for triples,
     against a gas in which these undo the staggered sum at once. The modes along a ray."""
     velocities, nu = gas_named(gas).velocities, theory.viscosity(gas, d, side)
@@ -185,7 +206,7 @@ def short_waves(gas, d, side):
     is_close((found[0] - found[1]) / (-2 * nu**2 * k**2 * (1 / m - 1)), 1, 0.01)
 
 
-def rays():
+def test_rays():
     """8. The rates of the modes of a short wave along a ray, in a gas that seldom collides."""
     d, waves = 0.002, (0, 2 * np.pi / 3 / Y[1])
     rates = -np.log(abs(factors_of("fhp1", d, waves)))
@@ -207,7 +228,8 @@ def seen_after(changes, d):
     return -weights[0] + (weights[1] + weights[2]) / 2
 
 
-def pairs(d):
+@pytest.mark.parametrize("d", FILLINGS)
+def test_pairs(d):
     """9. The correlations that the first collision makes, Boltzmann's two generations, and the
     third, in which pairs meet again. What is conserved makes no pairs."""
     shear, angle = np.array([1, -1 / 2, -1 / 2] * 2), np.pi / 3 * np.arange(6)
@@ -236,7 +258,8 @@ def pairs(d):
         is_close(correlated, 0)
 
 
-def lines(d):
+@pytest.mark.parametrize("d", (0.002, 0.01, 0.05))
+def test_lines(d):
     """9. The difference of the two directions of a line fades and spreads, on both checkerboards,
     holds more of both directions, and the law of C(t), which the pair closure has and `fhp-rest`
     has not."""
@@ -257,14 +280,8 @@ def lines(d):
     change = (flow.collided(chances) - chances).ravel()
     is_close(change[:3] + change[3:], 0, 1e-15)
     times, steps = np.array([40, 60]), np.linspace(0, 2000, 400_001)[1:]
-    law = (
-        lambda t: np.exp(-2 * m * t / 3)
-        / np.sqrt(8 * np.pi * spread * t)
-        * 8
-        * d
-        * (1 - d)
-        * more**2
-    )
+    most = 8 * d * (1 - d) * more**2
+    law = lambda t: most * np.exp(-2 * m * t / 3) / np.sqrt(8 * np.pi * spread * t)
     whole = (1 - 2 * d) ** 2 / (8 * d * (1 - d)) * np.sqrt(3 / (16 * spread * m))
     roots = 2 * steps * (steps[1] - steps[0])  # t = steps^2, without the root at 0
     is_close((law(steps**2) * roots).sum() / 4 / whole, 1, 1e-3)
@@ -276,13 +293,10 @@ def lines(d):
         is_close(found[1][times - 1] / law(times), 0, 0.1)
 
 
-def refuses(call, *words):
+@pytest.mark.parametrize("call, words", [(it[0], it[1:]) for it in REFUSED])
+def test_refuses(call, words):
     """9. What is no filling, start, side, chance, size, number of generations or stress."""
-    try:
-        call(*words)
-    except Fault:
-        return
-    raise AssertionError("not refused")
+    pytest.raises(Fault, call, *words)
 
 
 def spread(gas, d, side):
@@ -301,7 +315,8 @@ def grown(gas, d, side):
     return 3**0.5 * (1 - 2 * d) ** 2 / (3072 * np.pi * d * (1 - d)) * both
 
 
-def tail(gas, d, side):
+@pytest.mark.parametrize("gas, d, side", (*GASES[:2], GASES[3], ("fhp-rest", 0.15, "seeded")))
+def test_tail(gas, d, side):
     """10. The spread of staggered momenta, exact in FHP-I, and the growth of the viscosity, which
     the pair closure, that knows no modes, has too."""
     if gas == "fhp1":
@@ -310,31 +325,3 @@ def tail(gas, d, side):
     found = theory.pair_viscosity(gas, d, 64, side, size=112)
     growth, (momenta, staggered) = (found[64] - found[40]) / np.log(64 / 40), grown(gas, d, side)
     assert abs(growth - momenta - staggered) < 0.1 * growth < growth - momenta, growth
-
-
-SEEDED = ("fhp1", 0.3, "seeded"), ("fhp1", 0.1, "seeded"), ("fhp-rest", 0.2, "seeded")
-GASES = *SEEDED, ("fhp1", 0.3, "left")
-NO_PAIRS = (
-    ("fhp1", 1, X),
-    ("fhp1", 0.1, X[:5]),
-    ("fhp1", 0.1, [1j] * 6),
-    ("fhp1", 0.1, X, "up"),
-    ("fhp1", 0.1, X, "left", 2),
-    ("fhp1", 0.1, X, "left", 1, 1),
-)
-CASES = [
-    *((check, d) for check in (sums, shares, sound, shear, noise, factor, pairs) for d in FILLINGS),
-    *((at_a_wave_number, d) for d in FILLINGS[:4]),
-    *((at_the_edge, gas) for gas in ("fhp1", "fhp-rest")),
-    *((short_waves, gas, d, side) for gas, d, side in (*GASES, ("fhp-rest", 0.5, "seeded"))),
-    (rays,),
-    *((lines, d) for d in (0.002, 0.01, 0.05)),
-    *((refuses, boltzmann.pair_closure, *words) for words in NO_PAIRS),
-    *((refuses, theory.pair_viscosity, *words) for words in (("hpp", 0.1, 9), ("fhp1", 0.1, -1))),
-    *((refuses, theory.running_viscosity, stress) for stress in ([], [0, 1], ["a"], 1)),
-    *((tail, *flow) for flow in (*GASES[:2], GASES[3], ("fhp-rest", 0.15, "seeded"))),
-    *((slip, *flow, along) for flow in GASES for along in DRIVES),
-]
-
-
-sys.exit(needs.tell_wrong(map(needs.why_wrong, CASES)))

@@ -1,6 +1,5 @@
-#!/usr/bin/env python3
 """Compares the engine in Python's process (python/fhpgas/engine.py with the libraries beside it) with the program, parts of a lattice with
-the whole, and include/fhpgas.h with what the library refuses, with the binding and with the crate. Ends with the counts."""
+the whole, and include/fhpgas.h with what the library refuses, with the binding and with the crate."""
 
 import concurrent.futures
 import copy
@@ -10,19 +9,14 @@ import os
 import pathlib
 import platform
 import re
-import shutil
 import signal
 import subprocess
 import sys
-import tempfile
-import unittest
 from unittest import mock
 
-sys.path.append(f"{sys.path[0]}/../lib")
 import needs
-
-needs.libraries()
-PROGRAM = needs.built_program()
+import pytest
+from package_case import PROGRAM, fault
 
 import fhpgas
 import numpy as np
@@ -31,11 +25,12 @@ from fhpgas import engine, planes
 from fhpgas.planes import packed, unpacked
 
 if engine.library() is None:
-    needs.leave_out("python/fhpgas has no library for this processor: make")
+    pytest.skip("python/fhpgas has no library for this processor", allow_module_level=True)
 GASES = [*fhpgas.GASES.values()]
 CHIRALITIES = "seeded", "left", "right"
 LATTICES, CUTS, REFUSALS = 2000, 3000, 3000
 WIDE = (65536, 1), (1, 65536), (4097, 5), (5, 4097), (16384, 3), (1000, 64)
+OTHERS = (needs.ROOT / "docs/LIBRARY.md").read_text().split("## From other languages")[1]
 KINDS = {"u8": "uint8_t", "u32": "uint32_t", "u64": "uint64_t", "i64": "int64_t", "usize": "size_t"}
 ARRAYS = {"uint8_t": "|u1", "uint64_t": "<u8", "int64_t": "<i8"}  # as numpy writes them
 
@@ -67,309 +62,292 @@ def side_by_side(function, values):
         return list(pool.map(function, values))
 
 
-class Header(unittest.TestCase):
-    def test_it_has_the_exports_of_the_crate(self):
-        """A slice of the crate is a pointer with a length."""
-        if not (needs.ROOT / "crates.txt").exists():
-            return  # in an archive
-        sources = [path.read_text() for path in (needs.ROOT / "crates").glob("*/src/**/*.rt")]
-        export, found = r'extern "C" fn fhpgas_(\w+)\(([^)]*)\) -> (\w+)', {}
-        word = re.compile(r"(\w+): (?:&(mut )?\[(\w+)\]|(\w+))")
-        for name, words, result in re.findall(export, "\n".join(sources)):
-            taken = []
-            for called, mutable, element, number in word.findall(words):
-                pointer = f"{'' if mutable else 'const '}{KINDS.get(element)} *"
-                array = [(pointer, called), ("size_t", f"{called}_length")]
-                taken += [(KINDS[number], called)] if number else array
-            found[name] = KINDS[result], taken
-        self.assertEqual(prototypes(), found)
-
-    def test_the_binding_has_its_calls_and_numbers(self):
-        self.assertIn(f"#define FHPGAS_INTERFACE {engine.INTERFACE}\n", HEADER)
-        gases = HEADER.partition("/* The gases:")[2].partition("}")[0]
-        self.assertEqual(gases.count(" = "), len(GASES))
-        for name, number in (engine.GASES | engine.CHIRALITIES).items():
-            with self.subTest(name=name):
-                self.assertIn(f"FHPGAS_{name.upper().replace('-', '_')} = {number}", HEADER)
-        for name, (result, *taken) in engine.CALLS.items():
-            with self.subTest(call=name):
-                wanted, pairs = prototypes()[name]
-                self.assertIs(result, NUMBERS[wanted], name)
-                for kind, (c, called) in zip(taken, pairs, strict=True):
-                    if array := re.fullmatch(r"(const )?(\w+) \*", c):
-                        is_written = "" if array[1] else "_W"
-                        name = f"ndpointer_{ARRAYS[array[2]]}_C{is_written}"
-                        self.assertEqual(kind.__name__, name, called)
-                    else:
-                        self.assertIs(kind, NUMBERS[c], called)
-
-    def test_it_is_c_and_cpp(self):
-        needs.command("cc")
-        for language in ("-xc -std=c99", "-xc++ -std=c++11"):
-            with self.subTest(language=language):
-                words = f"cc {language} -Wall -Wextra -Wpedantic -Werror -fsyntax-only -".split()
-                subprocess.run(words, input=HEADER, text=True, check=True)
+@pytest.mark.sources
+def test_it_has_the_exports_of_the_crate():
+    """A slice of the crate is a pointer with a length."""
+    sources = [path.read_text() for path in (needs.ROOT / "crates").glob("*/src/**/*.rt")]
+    export, found = r'extern "C" fn fhpgas_(\w+)\(([^)]*)\) -> (\w+)', {}
+    word = re.compile(r"(\w+): (?:&(mut )?\[(\w+)\]|(\w+))")
+    for name, words, result in re.findall(export, "\n".join(sources)):
+        taken = []
+        for called, mutable, element, number in word.findall(words):
+            pointer = f"{'' if mutable else 'const '}{KINDS.get(element)} *"
+            array = [(pointer, called), ("size_t", f"{called}_length")]
+            taken += [(KINDS[number], called)] if number else array
+        found[name] = KINDS[result], taken
+    assert prototypes() == found
 
 
-class Notices(unittest.TestCase):
-    def test_the_libraries_have_functions_of_these_crates_and_one_of_the_kit(self):
-        """So docs/NOTICES.md says from the maps that the linker wrote."""
-        maps = [*(needs.ROOT / "crates").glob("*/out/libfhpgas-*.map")]
-        own = {path.name for path in (needs.ROOT / "crates").glob("*")} | {"rand_chacha"}
-        for path in maps:
-            with self.subTest(path=path):
-                named = re.findall(r"\(\.text\.(\w+)", path.read_text())
-                calls = {name for name in named if name.startswith("fhpgas_")}
-                self.assertEqual(calls, {f"fhpgas_{name}" for name in prototypes()})
-                self.assertLessEqual({*named} - calls, own)
+def test_the_binding_has_its_calls_and_numbers():
+    assert f"#define FHPGAS_INTERFACE {engine.INTERFACE}\n" in HEADER
+    gases = HEADER.partition("/* The gases:")[2].partition("}")[0]
+    assert gases.count(" = ") == len(GASES)
+    for name, number in (engine.GASES | engine.CHIRALITIES).items():
+        assert f"FHPGAS_{name.upper().replace('-', '_')} = {number}" in HEADER
+    for name, (result, *taken) in engine.CALLS.items():
+        wanted, pairs = prototypes()[name]
+        assert result is NUMBERS[wanted], name
+        for kind, (c, called) in zip(taken, pairs, strict=True):
+            if array := re.fullmatch(r"(const )?(\w+) \*", c):
+                is_written = "" if array[1] else "_W"
+                name = f"ndpointer_{ARRAYS[array[2]]}_C{is_written}"
+                assert kind.__name__ == name, called
+            else:
+                assert kind is NUMBERS[c], called
 
 
-class Refusals(unittest.TestCase):
-    """The calls with random numbers and lengths, lawful ones and others. What a call returns is the first status, in the order in which the
-    header names what it refuses with, whose rule is broken, and then all arrays are as they were.
-    """
-
-    def test_random_calls(self):
-        library = Library(engine.library()._name)
-        calls = Calls(library, 2, 0.1, range(1, 140), range(1, 140), 2)
-        for name in NAMES:
-            text = HEADER[: HEADER.index(f"uint32_t fhpgas_{name}(")]
-            order = re.findall(r"Refuses with ([A-Z, ]+)\.", text)[-1].split(", ")
-            with self.subTest(name):
-                seen = {self.status(calls, name, order) for _ in range(REFUSALS)}
-                self.assertEqual(seen, {"DONE", *order})
-
-    def status(self, calls, name, order):
-        """The name of the status with which a random call must end, and ends."""
-        words = calls.draw(name)
-        arrays = [word for word in words if isinstance(word, np.ndarray)]
-        before, wanted = copy.deepcopy(arrays), next(filter(calls.wrong.get, order), "DONE")
-        status = calls.library.call(name, *words)
-        self.assertIn(f"FHPGAS_{wanted} = {status},", HEADER.replace(" = 8 ", " = 8, "), words)
-        if status:
-            np.testing.assert_equal(arrays, before, wanted)
-        return wanted
-
-    def test_lengths(self):
-        words, work = engine.library().fhpgas_words, engine.library().fhpgas_work_words
-        widths, heights = (0, 1, 64, 65, 65536, 65537, 2**32 - 1), (0, 1, 3, 65536, 65537)
-        for number, *size in itertools.product((0, 1, 7, 8, 9, 2**32 - 1), widths, heights):
-            lawful = number in PLANES and all(side in SIDES for side in size)
-            wanted = number * -(-size[0] // 64) * size[1] if lawful else 0
-            self.assertEqual(words(number, *size), wanted, (number, size))
-        for gas, width in ((3, 1), (0, 0), (0, 65537), (2**32 - 1, 64)):
-            self.assertEqual(work(gas, width), 0, (gas, width))
+@pytest.mark.parametrize("language", ("-xc -std=c99", "-xc++ -std=c++11"))
+def test_it_is_c_and_cpp(tool, language):
+    tool("cc")
+    words = f"cc {language} -Wall -Wextra -Wpedantic -Werror -fsyntax-only -".split()
+    subprocess.run(words, input=HEADER, text=True, check=True)
 
 
-class Engine(unittest.TestCase):
-    def test_cells_are_those_of_the_program(self):
-        def is_so(case):
-            lattice, generations = case
-            return lattice.run(generations, 1) == fhpgas.run(lattice.scene(), generations, 2)
-
-        self.assertEqual(side_by_side(is_so, cases()), [True] * LATTICES)
-
-    def test_strips_are_the_whole(self):
-        """Of two rows or more, with margins of two rows or more, in parts of one generation or more, and cut or not by the length of
-        a call."""
-        rng = np.random.default_rng(8)
-        pools = mock.Mock(side_effect=concurrent.futures.ThreadPoolExecutor)
-        for lattice, generations in itertools.islice(cases(), 300):
-            alone, workers = lattice.run(generations, 1), int(rng.integers(2, 9))
-            numbers = {"CUT": (1, 9999, 1 << 25), "MARGIN": (2, 4, 16, 32), "SHRINK": (2, 4, 8)}
-            known = {name: int(rng.choice(some)) for name, some in numbers.items()}
-            known = mock.patch.multiple(engine, LEAST=1, **known)
-            with known, mock.patch("concurrent.futures.ThreadPoolExecutor", pools):
-                self.assertEqual(lattice.run(generations, workers), alone)
-        self.assertEqual({call.args[0] for call in pools.call_args_list}, {*range(1, 9)})
-        self.assertRaisesRegex(fhpgas.Fault, "workers is an integer from 1", lattice.run, 1, 0)
-
-    def test_a_part_draws_the_bits_of_its_place(self):
-        """Rows that are farther than n from a cut are those of the whole after n generations, and some others are not."""
-        rng, cells, others = np.random.default_rng(3), 0, 0
-        for number in range(CUTS):
-            size = tuple(rng.integers((1, 4), (230, 60)).tolist())
-            whole = drawn(rng, size, GASES[number % len(GASES)], "seeded")
-            n, top = int(rng.integers(1, 9)), 2 * int(rng.integers(size[1] // 2))
-            bottom = int(rng.integers(top, size[1])) + 1
-            part, uncut = slice(top, bottom), whole.run(n, 1).states
-            cut = whole.replace(states=whole.states[part], solid=whole.solid[part])
-            planes = engine.advanced(cut, n, 1, first_row=top)
-            found, wanted = unpacked(planes, size[0]), uncut[part]
-            rows = slice(n * (top > 0), max(0, bottom - top - n * (bottom < size[1])))
-            np.testing.assert_array_equal(found[rows], wanted[rows], str(cut))
-            cells, others = cells + found[rows].size, others + (found != wanted).sum()
-        self.assertGreater(min(cells, others), 10_000)
-        with self.assertRaisesRegex(fhpgas.Fault, "even"):
-            engine.advanced(whole, 1, first_row=1)
-
-    def test_sums_by_hand(self):
-        """East and north-east, west, two that cancel out, none in a solid cell, and one at rest."""
-        lattice = fhpgas.Lattice([[3, 8, 9], [0, 0, 64]], [[0, 0, 0], [1, 0, 0]], "fhp-rest")
-        found = engine.sums(lattice, 2, 1).tolist()
-        fluid, particles, momentum = [[2, 1], [1, 1]], [[3, 2], [0, 1]], [[1, 0], [0, 0]]
-        self.assertEqual(found, [fluid, particles, momentum, momentum])
-
-    def test_sums_are_those_of_the_program(self):
-        rng = np.random.default_rng(6)
-
-        def is_so(case):
-            (lattice, _), block = case
-            table = fhpgas.coarse(lattice.scene(), 0, *block)
-            wanted, found = (table.fluid, table.particles, table.px, table.py), lattice.blocks(
-                *block
-            )
-            return found == table and np.array_equal(engine.sums(lattice, *block), wanted)
-
-        blocks = rng.choice([1, 2, 3, 8, 9, 63, 64, 65, 400, 4096], (LATTICES, 2)).tolist()
-        found = side_by_side(is_so, list(zip(cases(), blocks))[::4])
-        self.assertEqual(found, [True] * (LATTICES // 4))
-
-    def test_calls_are_cut(self):
-        """In parts of one generation and one row at least, which together make the same."""
-        lattice = drawn(np.random.default_rng(4), (100, 37), "fhp-rest", "seeded")
-        late, sums, calls = lattice.run(9), engine.sums(lattice, 7, 5), []
-        call = engine._call
-        watched = lambda name, *given: (calls.append(name), call(name, *given))[1]
-        for cut, runs in ((1, 9), (100 * 37 * 2, 5), (100 * 10, 9)):
-            with self.subTest(cut=cut):
-                calls.clear()
-                with mock.patch.multiple(engine, CUT=cut, _call=watched):
-                    self.assertEqual(lattice.run(9), late)
-                    self.assertEqual(calls.count("advance"), runs)
-                    np.testing.assert_array_equal(engine.sums(lattice, 7, 5), sums)
-
-    def test_measures_need_the_words_alone(self):
-        """Between the generations of a run no cell is packed or unpacked, and where particles leave walls is found once."""
-        lattice = drawn(np.random.default_rng(4), (100, 37), "fhp-rest", "seeded")
-        with mock.patch.multiple(planes, packed=mock.DEFAULT, unpacked=mock.DEFAULT) as forms:
-            for name, form in forms.items():
-                form.side_effect = {"packed": packed, "unpacked": unpacked}[name]
-            with mock.patch.object(planes, "_links", side_effect=planes._links) as links:
-                for later in lattice.every(1, 20):
-                    told = later.momentum, later.particles, later.blocks(), later.counts(8, 9)
-                    later.blocks(None, 1), fhpgas.forces(later) if later.generation else told
-        self.assertEqual((forms["unpacked"].call_count, links.call_count), (0, 12))
-        self.assertEqual(forms["packed"].call_count, 3)  # states, solid cells, and the others
-
-    def test_four_calls_in_threads_have_equal_cells(self):
-        lattices = [drawn(np.random.default_rng(k), (1000, 300), "fhp-rest") for k in range(4)]
-        alone = [lattice.run(100, 1) for lattice in lattices]
-        self.assertEqual(side_by_side(lambda each: each.run(100, 1), lattices), alone)
-
-    def test_an_interrupt_comes_between_calls(self):
-        script = (
-            "import fhpgas, signal; signal.signal(signal.SIGINT, signal.default_int_handler)\n"
-            "lattice = fhpgas.draw_gas(0.2, size=fhpgas.Size(4096, 1024))\n"
-            "print('begun', flush=True); lattice.run(10**6)"
-        )
-        words = [sys.executable, "-c", script]
-        pipes = dict(stdout=subprocess.PIPE, stderr=subprocess.PIPE, text=True)
-        environment = os.environ | {"PYTHONPATH": str(needs.ROOT / "python")}
-        with subprocess.Popen(words, **pipes, env=environment) as process:
-            self.assertEqual(process.stdout.readline(), "begun\n")
-            process.send_signal(signal.SIGINT)
-            self.assertIn("KeyboardInterrupt", process.communicate()[1])
+def test_the_libraries_have_functions_of_these_crates_and_one_of_the_kit():
+    """So docs/NOTICES.md says from the maps that the linker wrote."""
+    maps = [*(needs.ROOT / "crates").glob("*/out/libfhpgas-*.map")]
+    own = {path.name for path in (needs.ROOT / "crates").glob("*")} | {"rand_chacha"}
+    for path in maps:
+        named = re.findall(r"\(\.text\.(\w+)", path.read_text())
+        calls = {name for name in named if name.startswith("fhpgas_")}
+        assert calls == {f"fhpgas_{name}" for name in prototypes()}
+        assert {*named} - calls <= own
 
 
-class Examples(unittest.TestCase):
-    """What docs/LIBRARY.md shows of other languages."""
-
-    PAGE = (needs.ROOT / "docs/LIBRARY.md").read_text().split("## From other languages")[1]
-
-    def test_in_c(self):
-        """In a folder as an archive has it, by a user with a prefix of his own."""
-        needs.command("cc")
-        needs.command("pkg-config")
-        lines = self.block("bash").replace("cc ", "cc -std=c99 -Wall -Wextra -Wpedantic -Werror ")
-        with tempfile.TemporaryDirectory() as room:
-            for name in ("Makefile", "include", "examples", "python", "tools"):
-                os.symlink(needs.ROOT / name, f"{room}/{name}")
-            os.symlink(PROGRAM, f"{room}/fhpgas")
-            known = os.environ | {"HOME": f"{room}/home", "MAKEFLAGS": "--no-print-directory"}
-            run = functools.partial(subprocess.check_output, cwd=room, text=True, env=known)
-            printed = run(["bash", "-ec", f"{lines}./profile 1000"])
-            own = pathlib.Path(room, "home/fhpgas")
-            needed = run(["ldd", "profile"])
-            self.assertIn(f"libfhpgas.so.{engine.INTERFACE} => {own}/lib", needed)
-            version = run([own / "bin/fhpgas", "--version"]).split()[1]
-            known = run(["pkg-config", "--modversion", own / "lib/pkgconfig/fhpgas.pc"])
-            self.assertEqual(known, f"{version}\n")
-            run(["make", "-s", "uninstall", f"PREFIX={own}"])
-            self.assertEqual([path for path in own.rglob("*") if not path.is_dir()], [])
-        y, x = np.mgrid[:40, :200]
-        walls = (x // 10 == 5) & (y // 10 == 1)
-        start = fhpgas.Lattice(~walls & ((y * 200 + x) * 7 % 5 < 2), walls, seed=1)
-        table = fhpgas.coarse(start.scene(), 1000, 200, 1)
-        found = np.array([line.split() for line in printed.splitlines()], int)
-        self.assertEqual(
-            found.tolist(), np.hstack([table.fluid, table.particles, table.px]).tolist()
-        )
-
-    def block(self, language):
-        return re.search(rf"^```{language}\n(.*?)^```", self.PAGE, re.M | re.S)[1]
-
-    def test_in_python(self):
-        text = self.block("python")
-        self.assertIn("python/fhpgas/libfhpgas-x86-64-v2.so", text)
-        text = re.sub('python/[^"]*', engine.library()._name, text)  # the one that is here
-        words = [sys.executable, "-c", text]
-        self.assertEqual(subprocess.check_output(words, cwd=needs.ROOT), b"0 8\n")
-
-    def test_in_javascript(self):
-        module = needs.ROOT / "page/engine.js"
-        if not (module.exists() and shutil.which("node")):
-            self.skipTest("there is no node, or no page/engine.js")
-        script = module.read_text() + self.block("js")
-        self.assertEqual(subprocess.check_output(["node", "-"], input=script.encode()), b"0 8\n")
+@pytest.mark.parametrize("name", NAMES)
+def test_random_calls(name):
+    """With lawful numbers and lengths and others. What a call returns is the first status, in the order in which the header
+    names what it refuses with, whose rule is broken, and then all arrays are as they were."""
+    library = Library(engine.library()._name)
+    calls = Calls(library, 2, 0.1, range(1, 140), range(1, 140), 2)
+    text = HEADER[: HEADER.index(f"uint32_t fhpgas_{name}(")]
+    order = re.findall(r"Refuses with ([A-Z, ]+)\.", text)[-1].split(", ")
+    assert {status_of(calls, name, order) for _ in range(REFUSALS)} == {"DONE", *order}
 
 
-class Choice(unittest.TestCase):
-    """Which library is loaded."""
+def status_of(calls, name, order):
+    """The name of the status with which a random call must end, and ends."""
+    words = calls.draw(name)
+    arrays = [word for word in words if isinstance(word, np.ndarray)]
+    before, wanted = copy.deepcopy(arrays), next(filter(calls.wrong.get, order), "DONE")
+    status = calls.library.call(name, *words)
+    assert f"FHPGAS_{wanted} = {status}," in HEADER.replace(" = 8 ", " = 8, "), words
+    if status:
+        np.testing.assert_equal(arrays, before, wanted)
+    return wanted
 
-    def setUp(self):
-        self.lattice = drawn(np.random.default_rng(5), (70, 20), "fhp1", "left")
-        self.addCleanup(engine.library.cache_clear)
 
-    def test_a_library_is_loaded_where_it_can_run_alone(self):
-        loaded = {}
-        flags = {"v3": engine.V3, "v2": engine.V3 - {"avx2"}, "": engine.V2 - {"popcnt"}}
-        opened = mock.patch.object(engine, "_opened", lambda path: path.name)
-        for name, known in flags.items():
-            engine.library.cache_clear()
-            flags_here = mock.patch.object(engine, "flags_of_processors", lambda: known)
-            with opened, flags_here, mock.patch.object(pathlib.Path, "is_file", lambda path: True):
-                loaded[name] = engine.library()
-        own = f"libfhpgas-{platform.machine()}.so"
-        names = {"v3": "libfhpgas-x86-64-v3.so", "v2": "libfhpgas-x86-64-v2.so", "": own}
-        self.assertEqual(loaded, names)
+def test_lengths():
+    words, work = engine.library().fhpgas_words, engine.library().fhpgas_work_words
+    widths, heights = (0, 1, 64, 65, 65536, 65537, 2**32 - 1), (0, 1, 3, 65536, 65537)
+    for number, *size in itertools.product((0, 1, 7, 8, 9, 2**32 - 1), widths, heights):
+        lawful = number in PLANES and all(side in SIDES for side in size)
+        wanted = number * -(-size[0] // 64) * size[1] if lawful else 0
+        assert words(number, *size) == wanted, (number, size)
+    for gas, width in ((3, 1), (0, 0), (0, 65537), (2**32 - 1, 64)):
+        assert work(gas, width) == 0, (gas, width)
+
+
+def test_cells_are_those_of_the_program():
+    def is_so(case):
+        lattice, generations = case
+        return lattice.run(generations, 1) == fhpgas.run(lattice.scene(), generations, 2)
+
+    assert side_by_side(is_so, cases()) == [True] * LATTICES
+
+
+def test_strips_are_the_whole():
+    """Of two rows or more, with margins of two rows or more, in parts of one generation or more, and cut or not by the length of
+    a call."""
+    rng = np.random.default_rng(8)
+    pools = mock.Mock(side_effect=concurrent.futures.ThreadPoolExecutor)
+    for lattice, generations in itertools.islice(cases(), 300):
+        alone, workers = lattice.run(generations, 1), int(rng.integers(2, 9))
+        numbers = {"CUT": (1, 9999, 1 << 25), "MARGIN": (2, 4, 16, 32), "SHRINK": (2, 4, 8)}
+        known = {name: int(rng.choice(some)) for name, some in numbers.items()}
+        known = mock.patch.multiple(engine, LEAST=1, **known)
+        with known, mock.patch("concurrent.futures.ThreadPoolExecutor", pools):
+            assert lattice.run(generations, workers) == alone
+    assert {call.args[0] for call in pools.call_args_list} == {*range(1, 9)}
+    fault("workers is an integer from 1", lattice.run, 1, 0)
+
+
+def test_a_part_draws_the_bits_of_its_place():
+    """Rows that are farther than n from a cut are those of the whole after n generations, and some others are not."""
+    rng, cells, others = np.random.default_rng(3), 0, 0
+    for number in range(CUTS):
+        size = tuple(rng.integers((1, 4), (230, 60)).tolist())
+        whole = drawn(rng, size, GASES[number % len(GASES)], "seeded")
+        n, top = int(rng.integers(1, 9)), 2 * int(rng.integers(size[1] // 2))
+        bottom = int(rng.integers(top, size[1])) + 1
+        part, uncut = slice(top, bottom), whole.run(n, 1).states
+        cut = whole.replace(states=whole.states[part], solid=whole.solid[part])
+        planes = engine.advanced(cut, n, 1, first_row=top)
+        found, wanted = unpacked(planes, size[0]), uncut[part]
+        rows = slice(n * (top > 0), max(0, bottom - top - n * (bottom < size[1])))
+        np.testing.assert_array_equal(found[rows], wanted[rows], str(cut))
+        cells, others = cells + found[rows].size, others + (found != wanted).sum()
+    assert min(cells, others) > 10_000
+    fault("even", lambda: engine.advanced(whole, 1, first_row=1))
+
+
+def test_sums_by_hand():
+    """East and north-east, west, two that cancel out, none in a solid cell, and one at rest."""
+    lattice = fhpgas.Lattice([[3, 8, 9], [0, 0, 64]], [[0, 0, 0], [1, 0, 0]], "fhp-rest")
+    found = engine.sums(lattice, 2, 1).tolist()
+    fluid, particles, momentum = [[2, 1], [1, 1]], [[3, 2], [0, 1]], [[1, 0], [0, 0]]
+    assert found == [fluid, particles, momentum, momentum]
+
+
+def test_sums_are_those_of_the_program():
+    rng = np.random.default_rng(6)
+
+    def is_so(case):
+        (lattice, _), block = case
+        table = fhpgas.coarse(lattice.scene(), 0, *block)
+        wanted, found = (table.fluid, table.particles, table.px, table.py), lattice.blocks(*block)
+        return found == table and np.array_equal(engine.sums(lattice, *block), wanted)
+
+    blocks = rng.choice([1, 2, 3, 8, 9, 63, 64, 65, 400, 4096], (LATTICES, 2)).tolist()
+    found = side_by_side(is_so, list(zip(cases(), blocks))[::4])
+    assert found == [True] * (LATTICES // 4)
+
+
+def test_calls_are_cut():
+    """In parts of one generation and one row at least, which together make the same."""
+    lattice = drawn(np.random.default_rng(4), (100, 37), "fhp-rest", "seeded")
+    late, sums, calls = lattice.run(9), engine.sums(lattice, 7, 5), []
+    call = engine._call
+    watched = lambda name, *given: (calls.append(name), call(name, *given))[1]
+    for cut, runs in ((1, 9), (100 * 37 * 2, 5), (100 * 10, 9)):
+        calls.clear()
+        with mock.patch.multiple(engine, CUT=cut, _call=watched):
+            assert lattice.run(9) == late
+            assert calls.count("advance") == runs
+            np.testing.assert_array_equal(engine.sums(lattice, 7, 5), sums)
+
+
+def test_measures_need_the_words_alone():
+    """Between the generations of a run no cell is packed or unpacked, and where particles leave walls is found once."""
+    lattice = drawn(np.random.default_rng(4), (100, 37), "fhp-rest", "seeded")
+    with mock.patch.multiple(planes, packed=mock.DEFAULT, unpacked=mock.DEFAULT) as forms:
+        for name, form in forms.items():
+            form.side_effect = {"packed": packed, "unpacked": unpacked}[name]
+        with mock.patch.object(planes, "_links", side_effect=planes._links) as links:
+            for later in lattice.every(1, 20):
+                told = later.momentum, later.particles, later.blocks(), later.counts(8, 9)
+                later.blocks(None, 1), fhpgas.forces(later) if later.generation else told
+    assert (forms["unpacked"].call_count, links.call_count) == (0, 12)
+    assert forms["packed"].call_count == 3  # states, solid cells, and the others
+
+
+def test_four_calls_in_threads_have_equal_cells():
+    lattices = [drawn(np.random.default_rng(k), (1000, 300), "fhp-rest") for k in range(4)]
+    alone = [lattice.run(100, 1) for lattice in lattices]
+    assert side_by_side(lambda each: each.run(100, 1), lattices) == alone
+
+
+def test_an_interrupt_comes_between_calls():
+    script = (
+        "import fhpgas, signal; signal.signal(signal.SIGINT, signal.default_int_handler)\n"
+        "lattice = fhpgas.draw_gas(0.2, size=fhpgas.Size(4096, 1024))\n"
+        "print('begun', flush=True); lattice.run(10**6)"
+    )
+    words = [sys.executable, "-c", script]
+    pipes = dict(stdout=subprocess.PIPE, stderr=subprocess.PIPE, text=True)
+    environment = os.environ | {"PYTHONPATH": str(needs.ROOT / "python")}
+    with subprocess.Popen(words, **pipes, env=environment) as process:
+        assert process.stdout.readline() == "begun\n"
+        process.send_signal(signal.SIGINT)
+        assert "KeyboardInterrupt" in process.communicate()[1]
+
+
+def block(language):
+    """What docs/LIBRARY.md shows of another language."""
+    return re.search(rf"^```{language}\n(.*?)^```", OTHERS, re.M | re.S)[1]
+
+
+def test_in_c(tool, tmp_path):
+    """In a folder as an archive has it, by a user with a prefix of his own."""
+    tool("cc"), tool("pkg-config")
+    lines = block("bash").replace("cc ", "cc -std=c99 -Wall -Wextra -Wpedantic -Werror ")
+    for name in ("Makefile", "include", "examples", "python", "tools"):
+        (tmp_path / name).symlink_to(needs.ROOT / name)
+    (tmp_path / "fhpgas").symlink_to(PROGRAM)
+    known = os.environ | {"HOME": f"{tmp_path}/home", "MAKEFLAGS": "--no-print-directory"}
+    run = functools.partial(subprocess.check_output, cwd=tmp_path, text=True, env=known)
+    printed = run(["bash", "-ec", f"{lines}./profile 1000"])
+    own = tmp_path / "home/fhpgas"
+    needed = run(["ldd", "profile"])
+    assert f"libfhpgas.so.{engine.INTERFACE} => {own}/lib" in needed
+    version = run([own / "bin/fhpgas", "--version"]).split()[1]
+    known = run(["pkg-config", "--modversion", own / "lib/pkgconfig/fhpgas.pc"])
+    assert known == f"{version}\n"
+    run(["make", "-s", "uninstall", f"PREFIX={own}"])
+    assert [path for path in own.rglob("*") if not path.is_dir()] == []
+    y, x = np.mgrid[:40, :200]
+    walls = (x // 10 == 5) & (y // 10 == 1)
+    start = fhpgas.Lattice(~walls & ((y * 200 + x) * 7 % 5 < 2), walls, seed=1)
+    table = fhpgas.coarse(start.scene(), 1000, 200, 1)
+    found = np.array([line.split() for line in printed.splitlines()], int)
+    assert found.tolist() == np.hstack([table.fluid, table.particles, table.px]).tolist()
+
+
+def test_in_python():
+    text = block("python")
+    assert "python/fhpgas/libfhpgas-x86-64-v2.so" in text
+    text = re.sub('python/[^"]*', engine.library()._name, text)  # the one that is here
+    words = [sys.executable, "-c", text]
+    assert subprocess.check_output(words, cwd=needs.ROOT) == b"0 8\n"
+
+
+def test_in_javascript(tool):
+    tool("node")
+    if not (module := needs.ROOT / "page/engine.js").exists():
+        pytest.skip("page/engine.js is missing")
+    script = module.read_text() + block("js")
+    assert subprocess.check_output(["node", "-"], input=script.encode()) == b"0 8\n"
+
+
+def test_a_library_is_loaded_where_it_can_run_alone(request):
+    request.addfinalizer(engine.library.cache_clear)
+    loaded = {}
+    flags = {"v3": engine.V3, "v2": engine.V3 - {"avx2"}, "": engine.V2 - {"popcnt"}}
+    opened = mock.patch.object(engine, "_opened", lambda path: path.name)
+    for name, known in flags.items():
         engine.library.cache_clear()
-        with mock.patch.object(engine, "INTERFACE", 0), self.assertWarnsRegex(
-            UserWarning, "left out: it has interface 3, and this package needs 0"
-        ):
-            self.assertIsNone(engine.library())
-
-    def test_every_level_that_runs_here_has_equal_cells(self):
-        late, flags = self.lattice.run(50), engine.flags_of_processors()
-        for level, needed in engine.LEVELS.items():
-            path = pathlib.Path(engine.__file__).with_name(f"libfhpgas-{level}.so")
-            opened = mock.patch.object(engine, "library", lambda: engine._opened(path))
-            if needed <= flags and path.exists():
-                with self.subTest(path=path), opened:
-                    self.assertEqual(self.lattice.run(50), late)
-
-    def test_without_a_library_one_fault_says_so(self):
-        """And what a lattice has is the same."""
-        lattice = drawn(np.random.default_rng(5), (70, 20), "fhp-rest")
-        of_blocks = lambda block: [lattice.blocks(*block), lattice.counts(*block)]
-        read = lambda: [lattice.momentum.round(9).tolist(), *of_blocks((7, 5)), *of_blocks((8, 9))]
-        known = read()
-        with mock.patch.object(engine, "library", lambda: None):
-            for found, wanted in zip(read(), known, strict=True):
-                np.testing.assert_array_equal(found, wanted)
-            for call in lattice.run, lattice.coarse:
-                why = "no engine for Linux on x86_64, so it runs no lattice"
-                self.assertRaisesRegex(fhpgas.Fault, why, call, 1)
+        flags_here = mock.patch.object(engine, "flags_of_processors", lambda: known)
+        with opened, flags_here, mock.patch.object(pathlib.Path, "is_file", lambda path: True):
+            loaded[name] = engine.library()
+    own = f"libfhpgas-{platform.machine()}.so"
+    names = {"v3": "libfhpgas-x86-64-v3.so", "v2": "libfhpgas-x86-64-v2.so", "": own}
+    assert loaded == names
+    engine.library.cache_clear()
+    why = "left out: it has interface 3, and this package needs 0"
+    with mock.patch.object(engine, "INTERFACE", 0), pytest.warns(UserWarning, match=why):
+        assert engine.library() is None
 
 
-needs.run_tests()
+def test_every_level_that_runs_here_has_equal_cells():
+    lattice = drawn(np.random.default_rng(5), (70, 20), "fhp1", "left")
+    late, flags = lattice.run(50), engine.flags_of_processors()
+    for level, needed in engine.LEVELS.items():
+        path = pathlib.Path(engine.__file__).with_name(f"libfhpgas-{level}.so")
+        opened = mock.patch.object(engine, "library", lambda: engine._opened(path))
+        if needed <= flags and path.exists():
+            with opened:
+                assert lattice.run(50) == late
+
+
+def test_without_a_library_one_fault_says_so():
+    """And what a lattice has is the same."""
+    lattice = drawn(np.random.default_rng(5), (70, 20), "fhp-rest")
+    of_blocks = lambda block: [lattice.blocks(*block), lattice.counts(*block)]
+    read = lambda: [lattice.momentum.round(9).tolist(), *of_blocks((7, 5)), *of_blocks((8, 9))]
+    known = read()
+    with mock.patch.object(engine, "library", lambda: None):
+        for found, wanted in zip(read(), known, strict=True):
+            np.testing.assert_array_equal(found, wanted)
+        for call in lattice.run, lattice.coarse:
+            why = "no engine for Linux on x86_64, so it runs no lattice"
+            fault(why, call, 1)

@@ -1,18 +1,15 @@
-#!/usr/bin/env python3
 """Runs the small form of every experiment, whose seeds are fixed: what it measures must be what theory says within its error, and far from
 what theory says of another gas. Every figure must show something. Compares theory, the Boltzmann solution and published formulas, and
-checks that a wrong use is refused in one line. Ends with the counts."""
+checks that a wrong use is refused in one line."""
 
-import concurrent.futures
-import pathlib
 import re
 import subprocess
 import sys
 import tempfile
 import warnings
 
-sys.path.append(f"{sys.path[0]}/../lib")
 import needs
+import pytest
 
 needs.libraries()
 needs.built_program()
@@ -45,11 +42,6 @@ porous.py --settled 1 | poiseuille.py --spans 0 | response.py --triples 2
 """
 
 
-def sure(is_so, *found):
-    if not is_so:
-        raise AssertionError(" ".join(map(str, found)))
-
-
 def numbers_of(line):
     return [float(number) for number in line.replace("+-", "").split()]
 
@@ -58,7 +50,7 @@ def ran(words):
     """The status, output and error output of an experiment."""
     script, *options = words.split()
     path = needs.ROOT / "experiments" / script
-    sure(path.stat().st_mode & 0o100, f"{script} can't be started by its name")
+    assert path.stat().st_mode & 0o100, f"{script} can't be started by its name"
     done = subprocess.run([sys.executable, path, *options], capture_output=True, text=True)
     return done.returncode, done.stdout, done.stderr
 
@@ -66,13 +58,10 @@ def ran(words):
 def printed(words):
     """The output of an experiment that draws its figure, which must have some ink and not be all ink."""
     with tempfile.TemporaryDirectory() as folder:
-        picture = pathlib.Path(folder, "figure.png")
-        status, output, fault = ran(f"{words} --picture {picture}")
-        sure(status == 0 and not fault, f"status {status}: {fault}")
-        shades = np.asarray(Image.open(picture).convert("L"))
-    ink = np.mean(shades < 200)
-    is_drawn = min(shades.shape) >= 200 and 0.005 < ink < 0.9
-    sure(is_drawn, f"a figure of {shades.shape} with {ink:.3f} ink")
+        status, output, fault = ran(f"{words} --picture {folder}/figure.png")
+        assert (status, fault) == (0, "")
+        shades = np.asarray(Image.open(f"{folder}/figure.png").convert("L"))
+    assert min(shades.shape) >= 200 and 0.005 < np.mean(shades < 200) < 0.9
     return output
 
 
@@ -81,31 +70,58 @@ def are_as_in_theory(words, names, most_error=0.1):
     beside what is expected, or where that is 0 beside the smallest other number."""
     lines = [line for line in LINE.findall(printed(words)) if line[0].startswith(tuple(names))]
     found = [(name, *map(float, numbers)) for name, *numbers in lines]
-    sure(len(found) >= len(names), f"{len(found)} measurements")
+    assert len(found) >= len(names), f"{len(found)} measurements"
     smallest = min(abs(expected) for *_, expected in found if abs(expected) > 0.01)
     for name, measured, error, expected in found:
         told = f"{name}: {measured} +- {error}, theory {expected}"
-        sure(abs(measured - expected) <= ERRORS * error + 0.001, told)
+        assert abs(measured - expected) <= ERRORS * error + 0.001, told
         is_sharp = error <= most_error * max(abs(expected), smallest)
-        sure(is_sharp, f"{told}: the error is too large to tell anything")
+        assert is_sharp, f"{told}: the error is too large to tell anything"
     return {name: (measured, error) for name, measured, error, _ in found}
 
 
-def slips(gas, chirality, filling, others):
+SOUND = "speed of sound", "damping D"
+IN_THEORY = [
+    *(("green_kubo", gas, ("stress after 1", "viscosity", *SOUND), 0.2) for gas in FLUIDS),
+    *(("equilibrium", gas, ["direction"], 0.05) for gas in FLUIDS),
+    *(("sound", gas, SOUND, 0.1) for gas in FLUIDS),
+    *(("galilean", gas, [gas], 0.1) for gas in FLUIDS),
+    ("sound", "hpp", [f"{name} diagonal" for name in SOUND], 0.1),
+]
+
+
+@pytest.mark.parametrize("script, gas, names, most_error", IN_THEORY)
+def test_measurements_are_as_in_theory(script, gas, names, most_error):
+    are_as_in_theory(f"{script}.py --small --gas {gas}", names, most_error)
+
+
+def test_a_porous_flow_has_the_force_of_theory():
+    are_as_in_theory("porous.py --small", ["force"])
+
+
+@pytest.mark.parametrize(
+    "chirality, others",
+    (
+        ("seeded", [("fhp1", 0.3, "left"), ("fhp-rest", 0.3)]),
+        ("left", [("fhp1", 0.3)]),
+        ("right", [("fhp1", 0.3)]),
+    ),
+)
+def test_slips(chirality, others):
     """The slip and the odd viscosity of a channel are those of theory, with their signs, and not those of other gases or of no slip."""
-    words = f"--gas {gas} --chirality {chirality} --filling {filling}"
+    words = f"--gas fhp1 --chirality {chirality} --filling 0.3"
     names = ["8 rows: viscosity", "8 rows: slip K", "8 rows: odd viscosity"]
     found = are_as_in_theory(f"poiseuille.py --small --seeds 16 {words}", names)
     (slip, error), (odd, odd_error) = (found[name] for name in names[1:])
-    sure(slip > 5 * error, "no slip", slip, error)
+    assert slip > 5 * error, ("no slip", slip, error)
     for other in others:
-        sure(abs(slip - theory.slip(*other)) > 5 * error, "the slip of", other, slip, error)
-    wanted, sign = theory.odd_viscosity(gas, filling, chirality), SIGNS[chirality]
-    sure(abs(odd - wanted) <= ERRORS * odd_error + 0.01, "odd", odd, odd_error, wanted)
-    sure(sign * odd > 5 * odd_error or not sign, "the sign of odd", odd, odd_error)
+        assert abs(slip - theory.slip(*other)) > 5 * error, ("the slip of", other, slip, error)
+    wanted, sign = theory.odd_viscosity("fhp1", 0.3, chirality), SIGNS[chirality]
+    assert abs(odd - wanted) <= ERRORS * odd_error + 0.01, ("odd", odd, odd_error, wanted)
+    assert sign * odd > 5 * odd_error or not sign, ("the sign of odd", odd, odd_error)
 
 
-def warns():
+def test_warns():
     """Viscosities and numbers warn where correlations are large, and only there."""
     for gas, side, filling, is_warned in (
         ("fhp1", "seeded", 0.1, True),
@@ -124,94 +140,108 @@ def warns():
                 warnings.simplefilter("always")
                 call()
             kinds = {each.category for each in caught}
-            sure(kinds == ({theory.Correlated} if is_warned else set()), gas, side, filling, kinds)
+            assert kinds == ({theory.Correlated} if is_warned else set()), (
+                gas,
+                side,
+                filling,
+                kinds,
+            )
 
 
-def responds(words):
+@pytest.mark.parametrize(
+    "words",
+    ("--filling 0.1 --triples 0.5 --until 60", "--filling 0.4 --gas fhp-rest --chirality left"),
+)
+def test_responds(words):
     """A stress decays as the pair closure says, up to a fifth of its excess over Boltzmann's viscosity, and not as Boltzmann says."""
     row = printed(f"response.py --small {words}").splitlines()[-1]
     *_, above, error, pairs = numbers_of(row)
-    sure(abs(above - pairs) <= ERRORS * error + 0.2 * pairs, row)
-    sure(above > ERRORS * error, row)
+    assert abs(above - pairs) <= ERRORS * error + 0.2 * pairs, row
+    assert above > ERRORS * error, row
 
 
-def swings(gas):
+@pytest.mark.parametrize("gas", FLUIDS)
+def test_swings(gas):
     """Waves fade and move as the modes say, and never fade only at rest and in three waves at the edge of the zone."""
     words = f"modes.py --small --gas {gas}"
     are_as_in_theory(words, [f"{n} rows: {name}" for n in (8, 16) for name in ("visc", "speed")])
     pairs = re.findall(r"\((\S+), (\S+)\)", printed(words).splitlines()[-1])
     found = {tuple(map(float, pair)) for pair in pairs}
     edge, angles = 3.628, np.pi / 3 * np.arange(3)  # 2 pi / sqrt 3
-    sure(len(found) == 4, found)
+    assert len(found) == 4, found
     for x, y in {(0, 0), *zip(edge * np.sin(angles), edge * np.cos(angles))}:
-        sure(
-            any(np.hypot(x - s * u, y - s * v) < 0.01 for u, v in found for s in (-1, 1)),
+        assert any(np.hypot(x - s * u, y - s * v) < 0.01 for u, v in found for s in (-1, 1)), (
             x,
             y,
             found,
         )
 
 
-def forgets(gas):
+@pytest.mark.parametrize("gas", FLUIDS)
+def test_forgets(gas):
     """Entropy rises, falls again to its start if all particles are turned, and if one is not only on a part of the way."""
     output = printed(f"entropy.py --small --gas {gas}")
     there, back, other = np.array([*map(numbers_of, output.splitlines()[1:12])])[:, 1::2].T
-    sure((there == back).all() and there[0] + 0.1 < there[-1], output)
-    sure(other.argmin() < 10 and there[0] < other.min() < other[-1] - 0.01, output)
-    sure(other[0] > other.min(), output)
+    assert (there == back).all() and there[0] + 0.1 < there[-1], output
+    assert other.argmin() < 10 and there[0] < other.min() < other[-1] - 0.01, output
+    assert other[0] > other.min(), output
 
 
-def is_viscous(gas, chirality):
+@pytest.mark.parametrize("gas, chirality", FORMULAS)
+def test_is_viscous(gas, chirality):
     """The viscosity is between Boltzmann's in this channel and a little above, unlike the viscosities of the other gases."""
     row = printed(f"viscosity.py --small --gas {gas} --chirality {chirality}").splitlines()[-1]
     filling, _, measured, error, channel, published = numbers_of(row)
-    sure(abs(published - FORMULAS[gas, chirality](filling)) < 1e-4, published)
+    assert abs(published - FORMULAS[gas, chirality](filling)) < 1e-4, published
     most = 1 + CORRELATIONS
     fits = lambda nu: nu - ERRORS * error <= measured <= nu * most + ERRORS * error
-    sure(fits(channel), f"{measured} +- {error}, Boltzmann's {channel}")
+    assert fits(channel), f"{measured} +- {error}, Boltzmann's {channel}"
     others = [key for key, formula in FORMULAS.items() if fits(formula(filling))]
-    sure(others == [(gas, chirality)], f"{measured} +- {error} could be of {others}")
+    assert others == [(gas, chirality)], f"{measured} +- {error} could be of {others}"
 
 
-def collides(gas):
+@pytest.mark.parametrize("gas", GASES)
+def test_collides(gas):
     output = printed(f"collisions.py --gas {gas}")
     number, states = re.match(rf"{gas}: (\d+ of (\d+)) states collide\n", output).groups()
-    sure(number == COLLIDING.get(gas, number), number)
+    assert number == COLLIDING.get(gas, number), number
     for line in (
         "tables that are those of the rules: 2 of 2",
         f"states that conserve particles and momentum: {states} of {states}",
         "momentum balanced in 100 of 100 generations",
     ):
-        sure(line in output, line)
+        assert line in output, line
     sums = re.findall(r"summed (\S+) formula ([\d.]+)", output)
-    sure(len(sums) == 10 * (gas in FLUIDS), sums)
-    sure(all(abs(float(one) - float(other)) < 2e-4 for one, other in sums), sums)
+    assert len(sums) == 10 * (gas in FLUIDS), sums
+    assert all(abs(float(one) - float(other)) < 2e-4 for one, other in sums), sums
 
 
-def returns(gas):
+@pytest.mark.parametrize("gas", GASES)
+def test_returns(gas):
     output = printed(f"reversal.py --small --gas {gas}")
     back = [int(number) for number in re.findall(r": (\d+) cells differ", output)]
     growth = np.array([line.split() for line in output.splitlines()[4:]], int)
-    sure(back[0] == 0 < back[1] and growth[-1, 1] > growth[0, 1], output)
-    sure(((0 < growth[:, 1]) & (growth[:, 1] <= growth[:, 2])).all(), output)
+    assert back[0] == 0 < back[1] and growth[-1, 1] > growth[0, 1], output
+    assert ((0 < growth[:, 1]) & (growth[:, 1] <= growth[:, 2])).all(), output
 
 
-def permutes(gas):
+@pytest.mark.parametrize("gas", GASES)
+def test_permutes(gas):
     """No two states of a small lattice become one, and every state keeps its number of particles, and in two generations staggered
     momenta. In HPP single rows keep more."""
     rows = [
         line.rsplit(maxsplit=7)
         for line in printed(f"permutation.py --small --gas {gas}").splitlines()[2:]
     ]
-    sure(len(rows) >= 2 and all(row[2] == "True" for row in rows), rows)
+    assert len(rows) >= 2 and all(row[2] == "True" for row in rows), rows
     for name, states, _, cycles, longest, *_, once, twice in rows:
-        sure(int(states) // int(longest) <= int(cycles) < int(states), name)
-        sure(int(once) >= 1 and int(twice) >= 2, name)
+        assert int(states) // int(longest) <= int(cycles) < int(states), name
+        assert int(once) >= 1 and int(twice) >= 2, name
     sums = {row[0].strip(): [*map(int, row[-2:])] for row in rows}
-    sure(gas == "hpp" or sums["2 x 1"] == [1, 4] and sums["1 x 2"] == [1, 2], sums)
+    assert gas == "hpp" or sums["2 x 1"] == [1, 4] and sums["1 x 2"] == [1, 2], sums
 
 
-def grows():
+def test_grows():
     """The viscosity grows with the rows as the formula says, and the pair closure has its plateau."""
     output = printed("tail.py --small")
     are_near = [
@@ -219,32 +249,33 @@ def grows():
         for line in output.splitlines()
         if "pairs at" in line
     ]
-    sure(abs(are_near[-1][0] - are_near[-1][1]) < 0.15 * are_near[-1][1], output)
+    assert abs(are_near[-1][0] - are_near[-1][1]) < 0.15 * are_near[-1][1], output
     ((_, found, error, wanted),) = LINE.findall(output)
-    sure(abs(float(found) - float(wanted)) <= ERRORS * float(error), output)
+    assert abs(float(found) - float(wanted)) <= ERRORS * float(error), output
 
 
-def drags():
+def test_drags():
     """The force of a flow without inertia is that of the formula but for slip, and inertia adds to it."""
     output = printed("drag.py --small")
     slow, error, wanted = map(float, LINE.findall(output)[0][1:])
-    sure(abs(slow / wanted - 0.95) < 0.1 and error < 0.1 * wanted, output)
+    assert abs(slow / wanted - 0.95) < 0.1 and error < 0.1 * wanted, output
     ((reynolds, drag),) = re.findall(r"Reynolds (\S+): C +measured +(\S+)", output)[-1:]
-    sure(float(drag) * float(reynolds) / 2 > 1.1 * wanted, output)
+    assert float(drag) * float(reynolds) / 2 > 1.1 * wanted, output
 
 
-def keeps():
+def test_keeps():
     output = printed("invariants.py --small")
     row = re.compile(r"^ +\d+ +(\S+) +(\S+)  (\(.*\))$", re.M)
     groups = [row.findall(part) for part in output.split("staggered")[1:]]
     kinds = [[len({*values}) for values in zip(*group)] for group in groups]
-    sure([*map(len, groups)] == [5, 5] and all(kind[::2] == [5, 1] for kind in kinds), groups)
+    assert [*map(len, groups)] == [5, 5] and all(kind[::2] == [5, 1] for kind in kinds), groups
     parts = [part.splitlines()[:5] for part in output.split("generation\n")[1:]]
     streams = [{tuple(line.split()[1:]) for line in lines} for lines in parts]
-    sure([*map(len, streams)][:2] == [1, 5], streams)
+    assert [*map(len, streams)][:2] == [1, 5], streams
 
 
-def decays_as_published(gas, chirality):
+@pytest.mark.parametrize("gas, chirality", FORMULAS)
+def test_decays_as_published(gas, chirality):
     """A long slow shear wave of the Boltzmann equation decays with the published viscosity, its particles stay, and a wind carries it with
     the Galilean factor of that wind, and not with that of a slow one."""
     length, d, wind = 256, 0.2, 0.25
@@ -258,47 +289,44 @@ def decays_as_published(gas, chirality):
         sizes.append((flow.velocity(at_rest)[1, 0] * shape).sum())
         angles.append(np.angle((flow.momentum(carried)[1, 0] * turns).sum()))
     found, wanted = np.log(sizes[39] / sizes[79]) / 40 / k**2, FORMULAS[gas, chirality](d)
-    sure(abs(found - wanted) < 0.02 * wanted, found, wanted)
-    sure(abs(wanted - theory.viscosity(gas, d, chirality)) < 1e-9, wanted)
-    sure(abs(flow.density(at_rest).sum() - particles) < 1e-9, particles)
+    assert abs(found - wanted) < 0.02 * wanted, (found, wanted)
+    assert abs(wanted - theory.viscosity(gas, d, chirality)) < 1e-9, wanted
+    assert abs(flow.density(at_rest).sum() - particles) < 1e-9, particles
     factor, slow = (angles[39] - angles[79]) / 40 / k / wind, theory.galilean_factor(gas, d)
     fast = theory.galilean_factor(gas, d, wind)
-    sure(abs(factor - fast) < 0.02 * fast < abs(factor - slow), factor, slow, fast)
+    assert abs(factor - fast) < 0.02 * fast < abs(factor - slow), (factor, slow, fast)
 
 
-def is_refused(words):
+@pytest.mark.parametrize("words", REFUSED.strip().replace("\n", " | ").split(" | "))
+def test_is_refused(words):
     status, output, fault = ran(words)
     is_one = fault.count("\n") == 1 and fault.startswith(words.split()[0])
-    sure(status in (1, 2) and not output and is_one, status, output, fault)
+    assert status in (1, 2) and not output and is_one, (status, output, fault)
 
 
-def solves_no(*words):
-    try:
-        boltzmann.Flow(*words)
-    except Fault:
-        return
-    raise AssertionError("not refused")
+@pytest.mark.parametrize("words", ([np.zeros((3, 1)), "seeded", False], [[[0]], "up"], [[0]]))
+def test_the_boltzmann_equation_is_solved_in_channels_alone(words):
+    pytest.raises(Fault, boltzmann.Flow, "fhp1", *words)
 
 
-def street():
+def test_street(tmp_path):
     """Tells that no street is expected, and keeps the last lattice."""
-    with tempfile.TemporaryDirectory() as folder:
-        output = printed(f"street.py --small --scene {folder}/street.toml")
-        sure(Lattice.load(pathlib.Path(folder, "street.toml")).generation == 1500, "generation")
-    sure("no vortex street is expected below Reynolds 47" in output, output)
-    sure("Strouhal" not in output, output)
+    output = printed(f"street.py --small --scene {tmp_path}/street.toml")
+    assert Lattice.load(tmp_path / "street.toml").generation == 1500
+    assert "no vortex street is expected below Reynolds 47" in output, output
+    assert "Strouhal" not in output, output
 
 
-def finds_periods():
+def test_finds_periods():
     """The changes of sign of a wave that is sampled every 200 generations, about a mean that is not 0."""
     wave = object.__new__(street_script.Street)
     wave.part, wave.times = 200, 20_000 + 200 * np.arange(200)
     wave.sides = 0.03 + 0.2 * np.sin(np.pi * (wave.times - 20_100) / 2_345)
     halves = np.diff(wave.crossings())
-    sure(len(halves) == 16 and abs(halves.mean() - 2345) < 5, halves)
+    assert len(halves) == 16 and abs(halves.mean() - 2345) < 5, halves
 
 
-def takes_arrays():
+def test_takes_arrays():
     """Theory of an array is an array of the theory of its numbers."""
     for name, gas, *more in (
         ("viscosity", "fhp-rest", "left"),
@@ -312,38 +340,4 @@ def takes_arrays():
         of = lambda d: getattr(theory, name)(gas, d, *more)
         found, wanted = of(np.array([[0.1, 0.3], [0.5, 0.7]])), [*map(of, (0.1, 0.3, 0.5, 0.7))]
         is_so = np.allclose(found, np.reshape(wanted, (2, 2)), rtol=1e-12)
-        sure(is_so, name, gas, found, wanted)
-
-
-SOUND = "speed of sound", "damping D"
-NOISE = "stress after 1", "viscosity", *SOUND
-CASES = [
-    *((check, gas) for check in (collides, returns) for gas in GASES),
-    *((check,) for check in (keeps, street, finds_periods, takes_arrays, grows, drags)),
-    *((permutes, gas) for gas in GASES),
-    (responds, "--filling 0.1 --triples 0.5 --until 60"),
-    (responds, "--filling 0.4 --gas fhp-rest --chirality left"),
-    *((check, gas) for check in (swings, forgets) for gas in FLUIDS),
-    *((check, *key) for check in (is_viscous, decays_as_published) for key in FORMULAS),
-    *((are_as_in_theory, f"green_kubo.py --small --gas {gas}", NOISE, 0.2) for gas in FLUIDS),
-    *(
-        (are_as_in_theory, f"equilibrium.py --small --gas {gas}", ["direction"], 0.05)
-        for gas in FLUIDS
-    ),
-    *((are_as_in_theory, f"sound.py --small --gas {gas}", SOUND) for gas in FLUIDS),
-    *((are_as_in_theory, f"galilean.py --small --gas {gas}", [gas]) for gas in FLUIDS),
-    (are_as_in_theory, "sound.py --small --gas hpp", [f"{name} diagonal" for name in SOUND]),
-    (are_as_in_theory, "porous.py --small", ["force"]),
-    (slips, "fhp1", "seeded", 0.3, [("fhp1", 0.3, "left"), ("fhp-rest", 0.3)]),
-    (slips, "fhp1", "left", 0.3, [("fhp1", 0.3)]),
-    (slips, "fhp1", "right", 0.3, [("fhp1", 0.3)]),
-    (solves_no, "fhp1", np.zeros((3, 1)), "seeded", False),
-    (solves_no, "fhp1", [[0]], "up"),
-    (solves_no, "fhp1", [0]),
-    *((is_refused, words) for words in REFUSED.replace("\n", " | ").strip(" |").split(" | ")),
-]
-
-
-told = needs.why_wrong((warns,))  # alone, because it catches the warnings of all threads
-with concurrent.futures.ThreadPoolExecutor(2) as pool:
-    sys.exit(needs.tell_wrong([told, *pool.map(needs.why_wrong, CASES)]))
+        assert is_so, (name, gas, found, wanted)

@@ -1,11 +1,10 @@
-#!/usr/bin/env python3
 """Tries `fhpgas.explain`: it says the program's line, the place and the reason of a refused scene,
-also on a Python without libraries. Ends with the counts."""
+also on a Python without libraries."""
 import subprocess
 import sys
 
-sys.path.append(f"{sys.path[0]}/../lib")
 import needs
+import pytest
 
 needs.built_program()
 import fhpgas  # noqa: E402 - finds the program by the line above
@@ -47,28 +46,22 @@ print(fhpgas.explain(sys.argv[2]), end=''); fhpgas.draw_gas
 """
 
 
-def refused(text):
-    try:
-        return fhpgas.check(text)
-    except fhpgas.Fault as fault:
-        return str(fault).removesuffix(" (`explain` says where)")
+@pytest.mark.parametrize("case", CASES.strip().split("\n"))
+def test_a_refused_scene_is_explained(case):
+    """Also by a bare Python, which has neither numpy nor its packages' folders."""
+    text, line, reason = case.split(" | ")
+    for word, meaning in WORDS.items():
+        text = text.replace(word, meaning)
+    told = fhpgas.explain(text)
+    assert told.startswith(f"{LINE}{line}\n  ") and reason in told.split("\nand then")[0]
+    with pytest.raises(fhpgas.Fault) as refused:
+        fhpgas.check(text)
+    assert str(refused.value).removesuffix(" (`explain` says where)") == LINE + line
+    words = [sys.executable, "-I", "-S", "-c", BARE, needs.ROOT / "python", text]
+    bare = subprocess.run(words, capture_output=True, text=True)
+    assert bare.stdout == told and "fhpgas.draw_gas needs numpy" in bare.stderr
 
 
-def tried():
-    """The bare Python has neither numpy nor its packages' folders."""
-    known = {"capture_output": True, "text": True}
-    for text, line, reason in (case.split(" | ") for case in CASES.strip().split("\n")):
-        for word, meaning in WORDS.items():
-            text = text.replace(word, meaning)
-        told = fhpgas.explain(text)
-        words = [sys.executable, "-I", "-S", "-c", BARE, needs.ROOT / "python", text]
-        bare = subprocess.run(words, **known)
-        is_told = told.startswith(f"{LINE}{line}\n  ") and reason in told.split("\nand then")[0]
-        is_alike = bare.stdout == told and "fhpgas.draw_gas needs numpy" in bare.stderr
-        for is_so in is_told, refused(text) == LINE + line, is_alike:
-            yield text, None if is_so else f"\n{told}"
-    for path in sorted((needs.ROOT / "scenes").glob("*.toml")):
-        yield path, fhpgas.explain(path) != refusals.NOT_REFUSED
-
-
-sys.exit(needs.tell_wrong(tried()))
+@pytest.mark.parametrize("path", sorted((needs.ROOT / "scenes").glob("*.toml")), ids=str)
+def test_a_scene_that_is_kept_is_not_refused(path):
+    assert fhpgas.explain(path) == refusals.NOT_REFUSED

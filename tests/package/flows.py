@@ -1,14 +1,11 @@
-#!/usr/bin/env python3
 """Compares collisions, driven flows, forces and theory with plain second implementations, exact
-laws, or published formulas. Ends with the counts."""
+laws, or published formulas."""
 
 import itertools
 import math
-import sys
 
-sys.path.append(f"{sys.path[0]}/../lib")
-import needs
-from package_case import GASES, Package, wind
+import pytest
+from package_case import GASES, same, wind
 
 import fhpgas
 import numpy as np
@@ -72,163 +69,159 @@ class Lines:
         return -np.polyfit(times, np.log(left[count // 4 :]), 1)[0]
 
 
-class Flows(Package):
-    def test_lines_keep_the_difference_of_their_directions(self):
-        """It fades at m / 3 and spreads by 3 / (2 lambda) - 1/2, or faster, as docs/DERIVATION.md says."""
-        for d, columns, rows in ((0.05, 1024, 1024), (0.1, 512, 1536)):
-            m, shear = 6 * d**2 * (1 - d) ** 2, 3 * d * (1 - d) ** 3
-            rates, k = [], 2 * np.pi / 256
-            for each in (0, k):
-                rate = m / 3 + (3 / (2 * shear) - 1 / 2) * each**2
-                size, step = Size(columns, rows), round(1 / rate / 8)
-                found = [Lines(d, each, size, seed).rate(step) for seed in (1, 2, 3, 4)]
-                rates.append((*fhpgas.mean_and_error(found), rate))
-            (still, error, wanted), (moving, other, faster) = rates
-            with self.subTest(d=d, rates=rates):
-                self.assertLess(abs(still - wanted), 4 * error + 0.05 * wanted)
-                self.assertLess(error, 0.1 * wanted)
-                spread = (moving - still) / (faster - wanted)
-                self.assertTrue(0.6 < spread < 2, spread)
-
-    def test_collisions_are_those_of_the_program(self):
-        """All states, three cells apart on an odd row: after a generation their particles are where the program moved them."""
-        for gas, side in itertools.product(map(fhpgas.gas_named, GASES), ("left", "right")):
-            with self.subTest(gas=gas.name, side=side):
-                states = np.zeros((3, 3 << gas.directions), int)
-                states[1, 1::3] = range(1 << gas.directions)
-                after = fhpgas.Lattice(states, None, gas, side).run(1).states
-                moved = (np.roll(after[1 + dy], -1 - dx)[::3] for dx, dy in gas.steps[1])
-                found = sum(cells & 1 << i for i, cells in enumerate(moved))
-                self.assertEqual(found.tolist(), gas.collisions(side)[: len(found)].tolist())
-
-    def test_a_reversed_run_comes_back_bit_for_bit(self):
-        for gas, side in itertools.product(GASES, ("left", "right", "seeded")):
-            if side == "seeded" and not fhpgas.gas_named(gas).is_square:
-                continue  # random bits only run forwards
-            with self.subTest(gas=gas, side=side):
-                start = wind((64, 47), gas, side)
-                late = start.run(100)
-                self.assertEqual(late.reverse().run(100).reverse(), start.replace(generation=200))
-                self.assertGreater(np.count_nonzero(late.states != start.states), 1000)
-
-    def test_walls_and_obstacles_receive_what_the_gas_loses(self):
-        """All of it, in every generation, and the staggered momenta stay as they are."""
-        for gas in GASES:
-            with self.subTest(gas=gas):
-                before, parts = wind((64, 47), gas), np.arange(64) < 20
-                kept = () if before.gas.is_square else fhpgas.staggered(before)
-                for after in itertools.islice(before.every(1, 20), 1, None):
-                    forces = fhpgas.forces(after)
-                    self.same(sum(forces.values()), before.momentum - after.momentum, 9)
-                    masks = (np.broadcast_to(parts ^ flip, (47, 64)) for flip in (False, True))
-                    halves = [fhpgas.forces(after, mask)["solid"] for mask in masks]
-                    self.same(sum(halves), forces["solid"], 9)
-                    self.assertEqual(kept and fhpgas.staggered(after), kept)
-                    before = after
-        gas, numbers = fhpgas.GASES["fhp1"], np.arange(12).reshape(6, 2)
-        plain = sum(number * np.outer(c, c) for number, c in zip(numbers[:, 1], gas.velocities))
-        self.same(fhpgas.flux(gas, numbers)[..., 1], plain)
-
-    def test_theory_has_the_published_numbers(self):
-        """By hand from the formulas of Frisch and others (1987)."""
-        theory, fhp1, rest = fhpgas.theory, "fhp1", "fhp-rest"
-        self.same(theory.sound_speed(fhp1), math.sqrt(1 / 2))
-        self.same(theory.sound_speed(rest), math.sqrt(3 / 7))
-        self.same(theory.galilean_factor(fhp1, [0.2, 0.5]), [0.375, 0])
-        self.same(theory.galilean_factor(rest, 0.2), 0.375 * 7 / 6)
-        self.same(theory.bulk_viscosity(fhp1, 0.2), 0)
-        self.same(theory.bulk_viscosity(rest, 0.5), 16 / 49 - 1 / 28)
-        self.same(theory.noise(fhp1, 0.5, 3), 1 / 6)
-        self.same(theory.relaxed(fhp1, 0.5, "left", np.ones(6)), 0)  # particles are kept
-        self.assertEqual(theory.isotropic(rest).name, rest)
-        self.same(theory.checked([0.2, 0.5]), [0.2, 0.5])
-        self.assertEqual(theory.is_correlated(fhp1, [0.1, 0.3]).tolist(), [True, False])
-        numbers = fhpgas.numbers(fhp1, 0.3, 0.1, 80)
-        viscosity, factor = 1 / (12 * 0.3 * 0.7**3) - 1 / 8, 0.4 / 1.4
-        self.same(numbers.mach, 0.1 * math.sqrt(2))
-        self.same(numbers.reynolds, factor * 0.1 * 80 / viscosity)
-        self.same(numbers.viscous_time, 80**2 / viscosity, 9)
-        self.same(numbers.turnover_time, 80 / factor / 0.1, 9)
-
-    def test_a_driven_run_is_repeatable_and_tells_its_force(self):
-        for gas in GASES:
-            with self.subTest(gas=gas):
-                start = wind((64, 47), gas)
-                points = [*start.driven(60, 10, force=0.001, seed=4)]
-                self.assertEqual(points, [*fhpgas.driven(start, 60, 10, force=0.001, seed=4)])
-                self.assertNotEqual(points, [*start.driven(60, 10, force=0.001, seed=5)])
-                wanted = [start, *(point.after.run(10) for point in points[:-1])]
-                self.assertEqual([point.before for point in points], wanted)
-                for point in points:
-                    before, after = point.before.momentum, point.after.momentum
-                    mean = (before + after)[0] / 2 / start.particles
-                    self.same(after - before, (2 * point.turned, 0), 9)
-                    self.assertEqual(point.after.particles, start.particles)
-                    self.assertAlmostEqual(point.force, (after - before)[0] / 10 / start.fluid)
-                    self.assertAlmostEqual(point.velocity, mean)
-                mean, most = sum(point.force for point in points) / 7, 47 * 2 / 70 / start.fluid
-                self.assertAlmostEqual(mean, 0.001, delta=most)
-                still = fhpgas.draw_gas(0.3, solid=start.solid, gas=gas)
-                for flow in (0.05, -0.05):
-                    *_, (_, after, *_) = still.driven(20, 10, flow=flow)
-                    mean = after.momentum[0] / after.particles
-                    self.assertAlmostEqual(mean, flow, delta=47 / after.particles)
-
-    def test_a_kick_turns_the_particles_that_its_rule_names(self):
-        """As a plain second implementation turns them, which owes what a row lacks to the next kick. In a thin gas rows lack particles."""
-        ways = "rows", "directions"
-        for gas, along, filling in itertools.product(GASES, ways, (0.3, 0.04, 0.01)):
-            with self.subTest(gas=gas, along=along, filling=filling):
-                solid = np.arange(21 * 40).reshape(21, 40) % 3 == 1
-                start = fhpgas.draw_gas(filling, solid=solid, gas=gas, seed=7)
-                force = 0.1 * filling
-                plain, most = PlainKicks(start, along, 6), 0.0
-                for point in start.driven(60, 3, force=force, along=along, seed=6):
-                    wanted = plain.kicked(point.before, 3 * force * start.fluid)
-                    self.assertEqual(point.after.states.tolist(), wanted.tolist())
-                    most = max(most, abs(plain.owed).max())
-                self.assertTrue(filling == 0.3 or most > 0.6, (gas, along, most))
-        for flow in (0.1, -0.2):
-            with self.subTest(flow=flow):
-                plain = PlainKicks(start, along, 0)
-                for before, after, *_ in start.driven(12, 4, flow=flow, along=along):
-                    wanted = flow * start.particles - before.momentum[0]
-                    self.assertEqual(after.states.tolist(), plain.kicked(before, wanted).tolist())
-                    plain.owed = plain.owed.clip(-0.5, 0.5)
-
-    def test_a_force_along_the_directions_changes_each_by_its_velocity(self):
-        """c_i to the east: E by twice as much as NE and SE, which is two thirds of the momentum. Along the rows only E changes."""
-        start = fhpgas.draw_gas(0.3, size=Size(512, 256), gas="fhp-rest", seed=2)
-        for along, shares in (
-            ("rows", [1 / 2, 0, 0, -1 / 2, 0, 0, 0]),
-            ("directions", [1 / 3, 1 / 6, -1 / 6, -1 / 3, -1 / 6, 1 / 6, 0]),
-        ):
-            with self.subTest(along=along):
-                (point,) = start.driven(0, 1, force=0.02, along=along)
-                gained = point.after.counts() - point.before.counts()
-                self.same(gained / (0.02 * start.fluid), shares, 2)
-                given = point.after.momentum - point.before.momentum
-                self.same(given, [point.force * start.fluid, 0], 9)
-        for force in (0.1, -0.1):
-            with self.subTest(force=force):
-                flow = fhpgas.boltzmann.Flow("fhp-rest", start.solid[:2, :3])
-                gained = flow.forced(flow.at(0.3), force, "directions") - flow.at(0.3)
-                self.same(gained, force * np.reshape(shares, (7, 1, 1)) * np.ones((2, 3)))
-
-    def test_a_kick_turns_every_place_of_a_row_as_often(self):
-        row, counts = fhpgas.Lattice(np.full((1, 16), 8)), np.zeros(16, int)
-        for seed in range(1600):
-            counts += next(row.driven(0, 1, force=3 * 2 / 16, seed=seed)).after.states[0] == 1
-        self.assertEqual(counts.sum(), 4800)
-        self.assertLess(abs(counts - 300).max(), 5 * math.sqrt(300 * 13 / 16))
-
-    def test_driven_flows_in_thin_porous_gases_run_to_their_end(self):
-        for share, every, seed in itertools.product((0.4, 0.5), (1, 4), (1, 2)):
-            with self.subTest(share=share, every=every, seed=seed):
-                solid = fhpgas.porous(Size(96, 64), share, 3, seed)
-                start = fhpgas.draw_gas(0.1, solid=solid, seed=seed)
-                *_, last = start.driven(120, every, force=0.001, seed=seed)
-                self.assertEqual(last.before.generation, 120)
+def test_lines_keep_the_difference_of_their_directions():
+    """It fades at m / 3 and spreads by 3 / (2 lambda) - 1/2, or faster, as docs/DERIVATION.md says."""
+    for d, columns, rows in ((0.05, 1024, 1024), (0.1, 512, 1536)):
+        m, shear = 6 * d**2 * (1 - d) ** 2, 3 * d * (1 - d) ** 3
+        rates, k = [], 2 * np.pi / 256
+        for each in (0, k):
+            rate = m / 3 + (3 / (2 * shear) - 1 / 2) * each**2
+            size, step = Size(columns, rows), round(1 / rate / 8)
+            found = [Lines(d, each, size, seed).rate(step) for seed in (1, 2, 3, 4)]
+            rates.append((*fhpgas.mean_and_error(found), rate))
+        (still, error, wanted), (moving, other, faster) = rates
+        assert abs(still - wanted) < 4 * error + 0.05 * wanted
+        assert error < 0.1 * wanted
+        spread = (moving - still) / (faster - wanted)
+        assert 0.6 < spread < 2, spread
 
 
-needs.run_tests()
+@pytest.mark.parametrize("side", ("left", "right"))
+@pytest.mark.parametrize("gas", map(fhpgas.gas_named, GASES), ids=GASES)
+def test_collisions_are_those_of_the_program(gas, side):
+    """All states, three cells apart on an odd row: after a generation their particles are where the program moved them."""
+    states = np.zeros((3, 3 << gas.directions), int)
+    states[1, 1::3] = range(1 << gas.directions)
+    after = fhpgas.Lattice(states, None, gas, side).run(1).states
+    moved = (np.roll(after[1 + dy], -1 - dx)[::3] for dx, dy in gas.steps[1])
+    found = sum(cells & 1 << i for i, cells in enumerate(moved))
+    assert found.tolist() == gas.collisions(side)[: len(found)].tolist()
+
+
+def test_a_reversed_run_comes_back_bit_for_bit():
+    for gas, side in itertools.product(GASES, ("left", "right", "seeded")):
+        if side == "seeded" and not fhpgas.gas_named(gas).is_square:
+            continue  # random bits only run forwards
+        start = wind((64, 47), gas, side)
+        late = start.run(100)
+        assert late.reverse().run(100).reverse() == start.replace(generation=200)
+        assert np.count_nonzero(late.states != start.states) > 1000
+
+
+def test_walls_and_obstacles_receive_what_the_gas_loses():
+    """All of it, in every generation, and the staggered momenta stay as they are."""
+    for gas in GASES:
+        before, parts = wind((64, 47), gas), np.arange(64) < 20
+        kept = () if before.gas.is_square else fhpgas.staggered(before)
+        for after in itertools.islice(before.every(1, 20), 1, None):
+            forces = fhpgas.forces(after)
+            same(sum(forces.values()), before.momentum - after.momentum, 9)
+            masks = (np.broadcast_to(parts ^ flip, (47, 64)) for flip in (False, True))
+            halves = [fhpgas.forces(after, mask)["solid"] for mask in masks]
+            same(sum(halves), forces["solid"], 9)
+            assert (kept and fhpgas.staggered(after)) == kept
+            before = after
+    gas, numbers = fhpgas.GASES["fhp1"], np.arange(12).reshape(6, 2)
+    plain = sum(number * np.outer(c, c) for number, c in zip(numbers[:, 1], gas.velocities))
+    same(fhpgas.flux(gas, numbers)[..., 1], plain)
+
+
+def test_theory_has_the_published_numbers():
+    """By hand from the formulas of Frisch and others (1987)."""
+    theory, fhp1, rest = fhpgas.theory, "fhp1", "fhp-rest"
+    same(theory.sound_speed(fhp1), math.sqrt(1 / 2))
+    same(theory.sound_speed(rest), math.sqrt(3 / 7))
+    same(theory.galilean_factor(fhp1, [0.2, 0.5]), [0.375, 0])
+    same(theory.galilean_factor(rest, 0.2), 0.375 * 7 / 6)
+    same(theory.bulk_viscosity(fhp1, 0.2), 0)
+    same(theory.bulk_viscosity(rest, 0.5), 16 / 49 - 1 / 28)
+    same(theory.noise(fhp1, 0.5, 3), 1 / 6)
+    same(theory.relaxed(fhp1, 0.5, "left", np.ones(6)), 0)  # particles are kept
+    assert theory.isotropic(rest).name == rest
+    same(theory.checked([0.2, 0.5]), [0.2, 0.5])
+    assert theory.is_correlated(fhp1, [0.1, 0.3]).tolist() == [True, False]
+    numbers = fhpgas.numbers(fhp1, 0.3, 0.1, 80)
+    viscosity, factor = 1 / (12 * 0.3 * 0.7**3) - 1 / 8, 0.4 / 1.4
+    same(numbers.mach, 0.1 * math.sqrt(2))
+    same(numbers.reynolds, factor * 0.1 * 80 / viscosity)
+    same(numbers.viscous_time, 80**2 / viscosity, 9)
+    same(numbers.turnover_time, 80 / factor / 0.1, 9)
+
+
+@pytest.mark.parametrize("gas", GASES)
+def test_a_driven_run_is_repeatable_and_tells_its_force(gas):
+    start = wind((64, 47), gas)
+    points = [*start.driven(60, 10, force=0.001, seed=4)]
+    assert points == [*fhpgas.driven(start, 60, 10, force=0.001, seed=4)]
+    assert points != [*start.driven(60, 10, force=0.001, seed=5)]
+    wanted = [start, *(point.after.run(10) for point in points[:-1])]
+    assert [point.before for point in points] == wanted
+    for point in points:
+        before, after = point.before.momentum, point.after.momentum
+        mean = (before + after)[0] / 2 / start.particles
+        same(after - before, (2 * point.turned, 0), 9)
+        assert point.after.particles == start.particles
+        assert point.force == pytest.approx((after - before)[0] / 10 / start.fluid, abs=1e-7)
+        assert point.velocity == pytest.approx(mean, abs=1e-7)
+    mean, most = sum(point.force for point in points) / 7, 47 * 2 / 70 / start.fluid
+    assert mean == pytest.approx(0.001, abs=most)
+    still = fhpgas.draw_gas(0.3, solid=start.solid, gas=gas)
+    for flow in (0.05, -0.05):
+        *_, (_, after, *_) = still.driven(20, 10, flow=flow)
+        mean = after.momentum[0] / after.particles
+        assert mean == pytest.approx(flow, abs=47 / after.particles)
+
+
+def test_a_kick_turns_the_particles_that_its_rule_names():
+    """As a plain second implementation turns them, which owes what a row lacks to the next kick. In a thin gas rows lack particles."""
+    ways = "rows", "directions"
+    for gas, along, filling in itertools.product(GASES, ways, (0.3, 0.04, 0.01)):
+        solid = np.arange(21 * 40).reshape(21, 40) % 3 == 1
+        start = fhpgas.draw_gas(filling, solid=solid, gas=gas, seed=7)
+        force = 0.1 * filling
+        plain, most = PlainKicks(start, along, 6), 0.0
+        for point in start.driven(60, 3, force=force, along=along, seed=6):
+            wanted = plain.kicked(point.before, 3 * force * start.fluid)
+            assert point.after.states.tolist() == wanted.tolist()
+            most = max(most, abs(plain.owed).max())
+        assert filling == 0.3 or most > 0.6, (gas, along, most)
+    for flow in (0.1, -0.2):
+        plain = PlainKicks(start, along, 0)
+        for before, after, *_ in start.driven(12, 4, flow=flow, along=along):
+            wanted = flow * start.particles - before.momentum[0]
+            assert after.states.tolist() == plain.kicked(before, wanted).tolist()
+            plain.owed = plain.owed.clip(-0.5, 0.5)
+
+
+def test_a_force_along_the_directions_changes_each_by_its_velocity():
+    """c_i to the east: E by twice as much as NE and SE, which is two thirds of the momentum. Along the rows only E changes."""
+    start = fhpgas.draw_gas(0.3, size=Size(512, 256), gas="fhp-rest", seed=2)
+    for along, shares in (
+        ("rows", [1 / 2, 0, 0, -1 / 2, 0, 0, 0]),
+        ("directions", [1 / 3, 1 / 6, -1 / 6, -1 / 3, -1 / 6, 1 / 6, 0]),
+    ):
+        (point,) = start.driven(0, 1, force=0.02, along=along)
+        gained = point.after.counts() - point.before.counts()
+        same(gained / (0.02 * start.fluid), shares, 2)
+        given = point.after.momentum - point.before.momentum
+        same(given, [point.force * start.fluid, 0], 9)
+    for force in (0.1, -0.1):
+        flow = fhpgas.boltzmann.Flow("fhp-rest", start.solid[:2, :3])
+        gained = flow.forced(flow.at(0.3), force, "directions") - flow.at(0.3)
+        same(gained, force * np.reshape(shares, (7, 1, 1)) * np.ones((2, 3)))
+
+
+def test_a_kick_turns_every_place_of_a_row_as_often():
+    row, counts = fhpgas.Lattice(np.full((1, 16), 8)), np.zeros(16, int)
+    for seed in range(1600):
+        counts += next(row.driven(0, 1, force=3 * 2 / 16, seed=seed)).after.states[0] == 1
+    assert counts.sum() == 4800
+    assert abs(counts - 300).max() < 5 * math.sqrt(300 * 13 / 16)
+
+
+@pytest.mark.parametrize("share, every, seed", itertools.product((0.4, 0.5), (1, 4), (1, 2)))
+def test_driven_flows_in_thin_porous_gases_run_to_their_end(share, every, seed):
+    solid = fhpgas.porous(Size(96, 64), share, 3, seed)
+    start = fhpgas.draw_gas(0.1, solid=solid, seed=seed)
+    *_, last = start.driven(120, every, force=0.001, seed=seed)
+    assert last.before.generation == 120

@@ -1,5 +1,4 @@
-#!/usr/bin/env python3
-"""Compares lattices, their runs, texts, files and refusals with the program itself, or with values made by hand. Ends with the counts."""
+"""Compares lattices, their runs, texts, files and refusals with the program itself, or with values made by hand."""
 
 import copy
 import dataclasses
@@ -12,11 +11,10 @@ import pickle
 import re
 import subprocess
 import sys
-import unittest.mock
+from unittest import mock
 
-sys.path.append(f"{sys.path[0]}/../lib")
-import needs
-from package_case import AREA, GASES, PROGRAM, TABLE, Package, wind
+import pytest
+from package_case import AREA, GASES, PROGRAM, TABLE, fault, same, wind
 
 import fhpgas
 import numpy as np
@@ -120,6 +118,7 @@ film("a.gif", [large], block=8)                     two integers
 plot(large, "particles")                            no picture of 'particles'
 film("a.gif", [large], fps=0)                       frames per second
 """
+
 CHIRALITIES = "seeded", "left", "right"
 SIZES = Size(64, 47), Size(65, 33), Size(1, 5), Size(7, 1)
 
@@ -133,280 +132,277 @@ def printed(lattice, words):
     return subprocess.check_output([PROGRAM, *words.split()], input=scene, text=True)
 
 
-class Lattices(Package):
-    def test_what_does_not_fit_is_a_fault(self):
-        names = globals() | vars(fhpgas) | vars(math) | {"replace": dataclasses.replace}
-        names |= {"gas": fhpgas.draw_gas, "mean": fhpgas.mean_and_error}
-        names |= {"start": fhpgas.Lattice.load(AREA), "solid": wind((64, 47)).solid}
-        names["vast"] = fhpgas.Lattice(np.zeros((8200, 4096), np.uint8))
-        names["large"] = fhpgas.draw_gas(0.2, size=Size(256, 96))
-        for call, part in re.findall(r"^(\S.*?)\s{2,}(.+)$", FAULTS, re.M):
-            with self.subTest(call=call):
-                self.fault(part, lambda: eval(call, names))
-
-    def test_a_lattice_does_not_change_and_is_equal_by_value(self):
-        states = np.array([[0, 0, 2, 0], [0] * 4, [0, 16, 0, 0]])
-        lattice, kept = fhpgas.Lattice(states, states < 0, seed=5, generation=7), states.tolist()
-        states[:] = 9
-        self.assertEqual(lattice.states.tolist(), kept)
-        self.assertEqual((lattice.size, lattice.particles, lattice.fluid), ((4, 3), 2, 12))
-        self.assertEqual((lattice.shape, np.shape(lattice)), ((3, 4),) * 2)
-        words = [[0] * 3, [4, 0, 0], *[[0] * 3] * 2, [0, 0, 2], [0] * 3]
-        self.assertEqual(lattice.planes[:, :, 0].T.tolist(), words)
-        if np.lib.NumpyVersion(np.__version__) >= "2.0.0":
-            self.assertRaises(ValueError, np.array, lattice, float, copy=False)
-        self.assertRaises(ValueError, lattice.__array__, float, copy=False)
-        self.assertIs(lattice.__array__(copy=False), lattice.states)
-        self.assertEqual(repr(lattice), "<Lattice fhp1 seeded 4 x 3, generation 7, 2 particles>")
-        self.assertIs(np.asarray(lattice), lattice.states)
-        self.assertEqual(np.add(lattice, 1).tolist(), (np.array(kept) + 1).tolist())
-        blocks = lattice.blocks(2, 2)
-        for one, again in ((lattice, lattice.replace()), (blocks, lattice.blocks(2, 2))):
-            for other in (again, pickle.loads(pickle.dumps(one)), copy.deepcopy(one)):
-                names = ("states", "solid", "planes") if one is lattice else ("fluid", "px")
-                arrays = [getattr(other, name) for name in names]
-                self.assertFalse(any(array.flags.writeable for array in arrays))
-                self.assertEqual((other, hash(other)), (one, hash(one)))
-                self.assertRaises(dataclasses.FrozenInstanceError, setattr, other, "generation", 8)
-        changes = {"seed": 6, "generation": 8, "chirality": "left", "gas": "fhp-rest"}
-        changes |= {"solid": np.arange(12).reshape(3, 4) == 5, "states": 0 * states}
-        for name, value in changes.items():
-            with self.subTest(name=name):
-                self.assertNotEqual(lattice.replace(**{name: value}), lattice, name)
-        self.assertNotEqual(dataclasses.replace(blocks, generation=8), blocks)
-
-    def test_runs_equal_the_program(self):
-        """Its bytes for a scene written by hand: also in parts, from a file, and in blocks."""
-        for gas, chirality, size in itertools.product(GASES, CHIRALITIES, SIZES):
-            with self.subTest(gas=gas, chirality=chirality, size=size):
-                start = wind(size, gas, chirality)
-                late = start.run(7)
-                self.assertEqual(late.text(), printed(start, "run --generations 7"))
-                self.assertEqual(fhpgas.run(start.scene(), 7, stages=3, capacity=2), late)
-                self.assertEqual(fhpgas.read_cells(late.text(), gas, size, chirality, 3), late)
-                three = start.run(3)
-                self.assertEqual([*three.every(2, 2)], [three, three.run(2), late])
-                start.save(self.room / "start.toml")
-                self.assertEqual(fhpgas.Lattice.load(self.room / "start.toml"), start)
-                self.assertEqual(fhpgas.Lattice.load(late.scene()), late)
-                for block in ((7, 5), (64, 47), (1, 1)):
-                    sides = "--block-width {} --block-height {}".format(*block)
-                    text = printed(start, f"coarse --generations 7 {sides}")
-                    table = fhpgas.read_table(text, gas, block, size, 7)
-                    self.assertEqual((start.coarse(7, *block), table), (late.blocks(*block),) * 2)
-                    self.assertEqual(late.blocks(*block).text(), text)
-                whole = (start.coarse(7, None, None), fhpgas.coarse(start.scene(), 7, None, None))
-                self.assertEqual(whole, (late.blocks(None, None),) * 2)
-
-    def test_printed_texts_are_read_whole_or_not_at_all(self):
-        cells = fhpgas.read_cells(CELLS, "fhp1", Size(4, 3))
-        self.assertEqual(cells.states.tolist(), [[0, 0, 2, 0], [0] * 4, [0, 16, 0, 0]])
-        self.assertEqual((cells.generation, np.argwhere(cells.solid).tolist()), (1, [[2, 0]]))
-        wrong = [CELLS.replace("02", pair) for pair in ("0g", "0A", "80", "#.", "2", " 2", "03")]
-        wrong += [CELLS + "........\n", CELLS.replace("........\n", ""), CELLS + "\n", TABLE]
-        for text in (*(CELLS[:end] for end in range(len(CELLS))), *wrong):
-            with self.subTest(text=text):
-                self.fault("cells", fhpgas.read_cells, text, "fhp1", Size(4, 3))
-        changes = ("8", "x"), ("    1     0", "    2     0"), ("3          1", "3        1.0")
-        wrong, known = [TABLE.replace(*pair) for pair in changes], ("hpp", (2, 2), Size(6, 2))
-        why = "this is no whole table of `coarse` with 3 columns and 1 rows"
-        for text in (*(TABLE[:end] for end in range(len(TABLE))), TABLE + "\n", *wrong, CELLS):
-            with self.subTest(text=text):
-                self.fault(why, fhpgas.read_table, text, *known)
-
-    def test_a_key_that_only_a_later_program_reads_is_refused(self):
-        printed = program.call(AREA.encode(), "run", "--generations", 0)
-        with unittest.mock.patch.object(fhpgas.lattice, "call", return_value=printed):
-            self.fault("the key `later`", fhpgas.run, AREA + "later = 1\n", 0)
-            self.fault("the key `later`", fhpgas.Lattice.load, AREA + "later = 1\n")
-
-    def test_maps_are_read_without_the_program_as_the_program_reads_them(self):
-        start = wind((70, 40), "fhp-rest", "right").run(3)
-        start.save(self.room / "a.toml")
-        start.save(self.room / "a.npz")
-        texts = 'gas = "hpp"\ncells = ["01##"]\n', "\ufeff" + 'seed=3\ngas="fhp1"\ncells=["..3f"]\n'
-        scenes = self.room / "a.toml", self.room / "a.npz", *texts
-        wanted = [fhpgas.Lattice.load(scene) for scene in scenes]
-        with unittest.mock.patch.object(
-            fhpgas.lattice, "program_path", side_effect=fhpgas.Fault("no program")
-        ):
-            self.assertEqual([fhpgas.Lattice.load(scene) for scene in scenes], wanted)
-            self.fault("no program", fhpgas.Lattice.load, AREA)
-            self.fault(
-                "scene: row 0 cell 1 is not a cell",
-                fhpgas.Lattice.load,
-                texts[0].replace("##", "1f"),
-            )
-        self.assertEqual((wanted[0], wanted[1]), (start, start))
-
-    def test_what_is_built_says_what_it_is(self):
-        told = subprocess.check_output([PROGRAM, "--version"], text=True)
-        text, found = re.search(r"\((.*)\)", told)[1], fhpgas.build()
-        wanted = text if text.endswith("not proved") else "made by the kit, compare with RECORD"
-        self.assertEqual(found["program"], wanted)
-        is_plain = b"fhpgas_not_proved" in pathlib.Path(engine.library()._name).read_bytes()
-        self.assertEqual(found["engine"].endswith("not proved"), is_plain)
-
-    def test_a_missing_library_is_a_fault_that_names_it(self):
-        start = fhpgas.Lattice.load(AREA)
-        with unittest.mock.patch.dict(
-            sys.modules, {"scipy": None, "scipy.ndimage": None, "xarray": None, "tqdm.auto": None}
-        ):
-            self.fault("lacks the package scipy: pip install scipy", start.blocks().smooth)
-            self.fault("lacks the package xarray", start.to_xarray)
-            with self.assertWarnsRegex(UserWarning, "tqdm is missing"):
-                self.assertEqual(start.run(3, progress=True), start.run(3))
-
-    def test_a_scene_is_passed_as_its_text_or_its_path(self):
-        (self.room / "d=0.3.toml").write_text(AREA)
-        start = fhpgas.Lattice.load(AREA)
-        found = start.gas.name, start.chirality, start.seed, start.generation, start.solid.sum()
-        self.assertEqual(found, ("fhp1", "seeded", 7, 0, 12))
-        summary = fhpgas.Summary("fhp1", 66, 9, 12, start.particles)
-        for scene in (AREA, self.room / "d=0.3.toml", str(self.room / "d=0.3.toml"), start.scene()):
-            with self.subTest(scene=scene):
-                self.assertEqual(fhpgas.check(scene), summary)
-                self.assertEqual(fhpgas.run(scene, 5), start.run(5))
-                self.assertEqual(fhpgas.coarse(scene, 5, 11, 4), start.run(5).blocks(11, 4))
-        text = 'version = 2\ngas = "hpp" # cells = ["##"]\ncells = [\n  "##01", # a ] mark\n'
-        text += '  "0100",\n]\nchirality = "left"\nseed = 4\n'
-        wanted = fhpgas.Lattice([[0, 1], [1, 0]], [[1, 0], [0, 0]], "hpp", "left", 4, 9)
-        self.assertEqual(fhpgas.Lattice.load(text + "generation = 9"), wanted)
-        vast = 'version = 2\ngas = "fhp1"\nwidth = 65536\nheight = 1024\nrate = 1000\n'
-        found = fhpgas.coarse(vast + "generation = 3\n", 1, 4096, 512)  # too long as a map
-        self.assertEqual((found.fluid.shape, found.generation), ((2, 16), 4))
-        self.assertEqual({*found.particles.ravel().tolist()}, {6 * 4096 * 512})
-        wanted = fhpgas.Lattice.load(AREA.replace("seed = 7", "seed = 8"))
-        self.assertEqual(fhpgas.Lattice.load(fhpgas.with_seed(AREA, 8)), wanted)
-        self.assertEqual([*self.room.iterdir()], [self.room / "d=0.3.toml"])
-
-    def test_frames_cost_as_many_generations_as_they_show(self):
-        start, times = fhpgas.Lattice.load(AREA), [*range(0, 101, 5)]
-        known = {"autospec": True, "side_effect": fhpgas.Lattice.run}
-        with unittest.mock.patch.object(fhpgas.Lattice, "run", **known) as run:
-            self.assertEqual([each.generation for each in start.every(5, 20)], times)
-            points = start.driven(100, 5, flow=0.1)
-            self.assertEqual([point.after.generation for point in points], times)
-        self.assertEqual([each.args[1] for each in run.call_args_list], [5] * 40)
-
-    def test_a_run_is_resumed_from_what_is_kept(self):
-        start, kept = fhpgas.Lattice.load(AREA), self.room / "kept"
-        later = start.run(3)
-        self.assertEqual(start.resume(later.text()).run(4), start.run(7))
-        narrow = fhpgas.Lattice.load(AREA.replace("66", "64"))
-        self.fault("66 x 9 (columns x rows), and not 64 x 9", narrow.resume, later.text())
-        self.assertEqual(next(start.long_run(10, 4, kept)), start.run(4))
-        self.assertEqual([*start.long_run(10, 4, kept)], [start.run(8), start.run(10)])
-        self.assertEqual([*start.long_run(10, 4, kept)], [])
-        self.assertEqual(fhpgas.Lattice.load(kept), start.run(10))
-        with np.load(kept) as found:
-            self.assertEqual(found["generation"], 10)
-        kept = self.room / "kept.toml"
-        self.assertEqual(next(start.long_run(10, 4, kept)), start.run(4))
-        self.assertEqual(fhpgas.check(kept).particles, start.particles)
-        later.save(kept)
-        for old, new, part in (
-            ("66", "64", "size is 66 x 9, and not 64 x 9"),
-            ("3, 4]", "3, 3]", "fluid is 582, and not 585"),
-            ("300", "301", f"particles is {start.particles}, and not"),
-            ("= 7", "= 8", "seed is 7, and not 8"),
-            ("fhp1", "fhp-rest", "gas is fhp1"),
-            ("seed", "chirality = 'left'\nseed", "chirality is seeded"),
-            ("gas", "version = 2\ngeneration = 4\ngas", "of generation 3, and it is of 4, with"),
-            ("gas", "version = 2\ngeneration = 3\ngas", "of generation 3, and it is of 3, with"),
-        ):
-            with self.subTest(part=part):
-                self.fault(part, fhpgas.Lattice.load(AREA.replace(old, new)).long_run, 10, 4, kept)
-        empty = start.replace(states=0 * start.states)
-        other = empty.replace(solid=np.roll(start.solid, 1, 0))
-        self.fault("other cells are solid", other.resume, empty.run(1).text())
-        is_early = AssertionError("it computes before it tries its file")
-        with unittest.mock.patch.object(engine, "advanced", side_effect=is_early):
-            self.fault("No such file", start.long_run, 10, 4, "/no/such/kept.toml")
-
-    def test_masked_values_are_hidden_or_refused(self):
-        start = wind((64, 47))
-        blocks, odd = start.blocks(), np.arange(64 * 47).reshape(47, 64) % 2 == 1
-        image = blocks.plot(np.ma.masked_where(blocks.east > 0.1, blocks.east), Figure().subplots())
-        self.assertTrue(np.ma.getmaskarray(image.get_array())[blocks.east > 0.1].all())
-        gas, states = fhpgas.gas_named("fhp1"), np.ma.masked_where(odd, start.states)
-        size, thin = Size(64, 47), np.ma.masked_where(odd, 0.2 + 0 * odd)
-        walls, drawn = np.ma.masked_where(odd, odd), functools.partial(fhpgas.draw_gas, size=size)
-        for function, *words in (
-            (fhpgas.Lattice, states),
-            (fhpgas.Lattice, [*states]),
-            (fhpgas.Lattice, 0 * start.states, walls),
-            (fhpgas.draw_gas, thin),
-            (drawn, lambda X, Y: np.ma.masked_where(odd, 0 * X + 0 * Y), 0.0, 0.0),
-            (fhpgas.bitmap, size, walls),
-            (fhpgas.boltzmann.Flow, "fhp1", walls),
-            (fhpgas.equilibrium, gas, thin),
-            (fhpgas.theory.viscosity, gas, np.ma.masked_equal([0.2, 0.3], 0.3)),
-            (fhpgas.flux, gas, np.ma.masked_equal(start.counts(), start.counts()[2])),
-            (fhpgas.forces, start.run(1), walls),
-            (fhpgas.mean_and_error, [np.ma.masked_equal([1.0, 2.0], 2.0), np.array([1.0, 3.0])]),
-            (fhpgas.polygon, size, np.ma.masked_equal([(0, 0), (9, 0), (0, 9)], 9)),
-        ):
-            with self.subTest(function=function):
-                self.fault("a masked value is none", function, *words)
-
-    def test_a_file_is_saved_where_a_link_points_and_never_over_what_is_no_file(self):
-        start, room = fhpgas.Lattice.load(AREA), self.room / "saved"
-        (room / "there").mkdir(parents=True)
-        target, link = room / "there/a.toml", room / "link.toml"
-        link.symlink_to(target)
-        start.save(link)
-        target.chmod(0o640)
-        start.run(1).save(link)
-        self.assertTrue(link.is_symlink() and target.stat().st_mode & 0o777 == 0o640)
-        self.assertEqual(fhpgas.Lattice.load(target), start.run(1))
-        os.mkfifo(room / "fifo")
-        for name in ("fifo", "there", "/dev/null"):
-            with self.subTest(name=name):
-                kept = lambda path: start.long_run(2, 1, path)
-                for call in (start.save, kept, start.blocks().save):
-                    self.fault(f"{name} is no plain file", call, room / name)
-        lattices = [start.run(number) for number in range(8)]
-        shared = room / "shared.toml"
-        fhpgas.side_by_side(lambda lattice: [lattice.save(shared) for _ in range(20)], lattices)
-        self.assertIn(fhpgas.Lattice.load(shared), lattices)
-        names = {path.name for path in room.rglob("*")}
-        wanted = {"there", "a.toml", "link.toml", "fifo", "shared.toml"}
-        self.assertEqual(names, wanted)
-        with unittest.mock.patch.object(os, "replace", side_effect=KeyboardInterrupt):
-            self.assertRaises(KeyboardInterrupt, start.save, shared)
-        (room / ".shared.toml.new").write_text("what a killed run left")
-        with unittest.mock.patch.object(os, "fsync", side_effect=os.fsync) as synced:
-            start.save(shared)
-        self.assertTrue(synced.called)
-        self.assertEqual({path.name for path in room.rglob("*")}, wanted)
-        self.assertEqual(fhpgas.Lattice.load(shared), start)
-
-    def test_a_refusal_names_its_file(self):
-        (path := self.room / "wrong.toml").write_text("x\n")
-        calls = fhpgas.check, fhpgas.Lattice.load, lambda path: fhpgas.with_seed(path, 1)
-        late = lambda path: fhpgas.Lattice.load(AREA).long_run(2, 1, path)
-        for call in *calls, lambda path: fhpgas.coarse(path, 1), late:
-            with self.subTest(call=call):
-                self.fault(f"{path}: scene: not TOML", call, path)
-        fhpgas.Lattice.load(AREA.replace("fhp1", "hpp")).save(path)
-        self.fault(f"{path}: the cells are", fhpgas.Lattice.load(AREA).long_run, 2, 1, path)
-
-    def test_sums_by_direction_are_counted(self):
-        for gas in GASES:
-            with self.subTest(gas=gas):
-                lattice = wind((65, 33), gas).run(2)
-                flags = lattice.states >> np.arange(lattice.gas.directions)[:, None, None] & 1
-                rows = np.add.reduceat(flags, (0, 20), axis=1)
-                counts = np.add.reduceat(rows, (0, 30, 60), axis=2)
-                whole = flags.sum((1, 2))
-                self.assertEqual(lattice.counts(30, 20).tolist(), counts.tolist())
-                self.assertEqual(lattice.counts().tolist(), whole.tolist())
-                self.same(lattice.counts(None, 20), counts.sum(2, keepdims=True))
-                self.assertEqual(lattice.blocks(None, 9), lattice.blocks(65, 9))
-                self.same(lattice.momentum, whole @ lattice.gas.velocities)
-                sums = lattice.blocks().px.sum(), lattice.blocks().py.sum()
-                self.same(lattice.momentum, np.multiply(lattice.gas.units, sums), 9)
+@pytest.fixture(scope="module")
+def names():
+    """What the calls of FAULTS name."""
+    names = globals() | vars(fhpgas) | vars(math) | {"replace": dataclasses.replace}
+    names |= {"gas": fhpgas.draw_gas, "mean": fhpgas.mean_and_error}
+    names |= {"start": fhpgas.Lattice.load(AREA), "solid": wind((64, 47)).solid}
+    names["vast"] = fhpgas.Lattice(np.zeros((8200, 4096), np.uint8))
+    return names | {"large": fhpgas.draw_gas(0.2, size=Size(256, 96))}
 
 
-needs.run_tests()
+@pytest.mark.parametrize("call, part", re.findall(r"^(\S.*?)\s{2,}(.+)$", FAULTS, re.M))
+def test_what_does_not_fit_is_a_fault(names, call, part):
+    fault(part, lambda: eval(call, names))
+
+
+def test_a_lattice_does_not_change_and_is_equal_by_value():
+    states = np.array([[0, 0, 2, 0], [0] * 4, [0, 16, 0, 0]])
+    lattice, kept = fhpgas.Lattice(states, states < 0, seed=5, generation=7), states.tolist()
+    states[:] = 9
+    assert lattice.states.tolist() == kept
+    assert (lattice.size, lattice.particles, lattice.fluid) == ((4, 3), 2, 12)
+    assert (lattice.shape, np.shape(lattice)) == ((3, 4),) * 2
+    words = [[0] * 3, [4, 0, 0], *[[0] * 3] * 2, [0, 0, 2], [0] * 3]
+    assert lattice.planes[:, :, 0].T.tolist() == words
+    if np.lib.NumpyVersion(np.__version__) >= "2.0.0":
+        pytest.raises(ValueError, np.array, lattice, float, copy=False)
+    pytest.raises(ValueError, lattice.__array__, float, copy=False)
+    assert lattice.__array__(copy=False) is lattice.states
+    assert repr(lattice) == "<Lattice fhp1 seeded 4 x 3, generation 7, 2 particles>"
+    assert np.asarray(lattice) is lattice.states
+    assert np.add(lattice, 1).tolist() == (np.array(kept) + 1).tolist()
+    blocks = lattice.blocks(2, 2)
+    for one, again in ((lattice, lattice.replace()), (blocks, lattice.blocks(2, 2))):
+        for other in (again, pickle.loads(pickle.dumps(one)), copy.deepcopy(one)):
+            names = ("states", "solid", "planes") if one is lattice else ("fluid", "px")
+            arrays = [getattr(other, name) for name in names]
+            assert not any(array.flags.writeable for array in arrays)
+            assert (other, hash(other)) == (one, hash(one))
+            pytest.raises(dataclasses.FrozenInstanceError, setattr, other, "generation", 8)
+    changes = {"seed": 6, "generation": 8, "chirality": "left", "gas": "fhp-rest"}
+    changes |= {"solid": np.arange(12).reshape(3, 4) == 5, "states": 0 * states}
+    for name, value in changes.items():
+        assert lattice.replace(**{name: value}) != lattice, name
+    assert dataclasses.replace(blocks, generation=8) != blocks
+
+
+@pytest.mark.parametrize("gas, chirality, size", itertools.product(GASES, CHIRALITIES, SIZES))
+def test_runs_equal_the_program(tmp_path, gas, chirality, size):
+    """Its bytes for a scene written by hand: also in parts, from a file, and in blocks."""
+    start = wind(size, gas, chirality)
+    late = start.run(7)
+    assert late.text() == printed(start, "run --generations 7")
+    assert fhpgas.run(start.scene(), 7, stages=3, capacity=2) == late
+    assert fhpgas.read_cells(late.text(), gas, size, chirality, 3) == late
+    three = start.run(3)
+    assert [*three.every(2, 2)] == [three, three.run(2), late]
+    start.save(tmp_path / "start.toml")
+    assert fhpgas.Lattice.load(tmp_path / "start.toml") == start
+    assert fhpgas.Lattice.load(late.scene()) == late
+    for block in ((7, 5), (64, 47), (1, 1)):
+        sides = "--block-width {} --block-height {}".format(*block)
+        text = printed(start, f"coarse --generations 7 {sides}")
+        table = fhpgas.read_table(text, gas, block, size, 7)
+        assert (start.coarse(7, *block), table) == (late.blocks(*block),) * 2
+        assert late.blocks(*block).text() == text
+    whole = (start.coarse(7, None, None), fhpgas.coarse(start.scene(), 7, None, None))
+    assert whole == (late.blocks(None, None),) * 2
+
+
+def test_printed_texts_are_read_whole_or_not_at_all():
+    cells = fhpgas.read_cells(CELLS, "fhp1", Size(4, 3))
+    assert cells.states.tolist() == [[0, 0, 2, 0], [0] * 4, [0, 16, 0, 0]]
+    assert (cells.generation, np.argwhere(cells.solid).tolist()) == (1, [[2, 0]])
+    wrong = [CELLS.replace("02", pair) for pair in ("0g", "0A", "80", "#.", "2", " 2", "03")]
+    wrong += [CELLS + "........\n", CELLS.replace("........\n", ""), CELLS + "\n", TABLE]
+    for text in (*(CELLS[:end] for end in range(len(CELLS))), *wrong):
+        fault("cells", fhpgas.read_cells, text, "fhp1", Size(4, 3))
+    changes = ("8", "x"), ("    1     0", "    2     0"), ("3          1", "3        1.0")
+    wrong, known = [TABLE.replace(*pair) for pair in changes], ("hpp", (2, 2), Size(6, 2))
+    why = "this is no whole table of `coarse` with 3 columns and 1 rows"
+    for text in (*(TABLE[:end] for end in range(len(TABLE))), TABLE + "\n", *wrong, CELLS):
+        fault(why, fhpgas.read_table, text, *known)
+
+
+@pytest.mark.parametrize("read", [lambda scene: fhpgas.run(scene, 0), fhpgas.Lattice.load])
+def test_a_key_that_only_a_later_program_reads_is_refused(read):
+    printed = program.call(AREA.encode(), "run", "--generations", 0)
+    with mock.patch.object(fhpgas.lattice, "call", return_value=printed):
+        fault("the key `later`", read, AREA + "later = 1\n")
+
+
+def test_maps_are_read_without_the_program_as_the_program_reads_them(tmp_path):
+    start = wind((70, 40), "fhp-rest", "right").run(3)
+    start.save(tmp_path / "a.toml")
+    start.save(tmp_path / "a.npz")
+    texts = 'gas = "hpp"\ncells = ["01##"]\n', "\ufeff" + 'seed=3\ngas="fhp1"\ncells=["..3f"]\n'
+    scenes = tmp_path / "a.toml", tmp_path / "a.npz", *texts
+    wanted = [fhpgas.Lattice.load(scene) for scene in scenes]
+    none, wrong = fhpgas.Fault("no program"), texts[0].replace("##", "1f")
+    with mock.patch.object(fhpgas.lattice, "program_path", side_effect=none):
+        assert [fhpgas.Lattice.load(scene) for scene in scenes] == wanted
+        fault("no program", fhpgas.Lattice.load, AREA)
+        fault("scene: row 0 cell 1 is not a cell", fhpgas.Lattice.load, wrong)
+    assert (wanted[0], wanted[1]) == (start, start)
+
+
+def test_what_is_built_says_what_it_is():
+    told = subprocess.check_output([PROGRAM, "--version"], text=True)
+    text, found = re.search(r"\((.*)\)", told)[1], fhpgas.build()
+    wanted = text if text.endswith("not proved") else "made by the kit, compare with RECORD"
+    assert found["program"] == wanted
+    is_plain = b"fhpgas_not_proved" in pathlib.Path(engine.library()._name).read_bytes()
+    assert found["engine"].endswith("not proved") == is_plain
+
+
+def test_a_missing_library_is_a_fault_that_names_it():
+    start = fhpgas.Lattice.load(AREA)
+    names = "scipy", "scipy.ndimage", "xarray", "tqdm.auto"
+    with mock.patch.dict(sys.modules, dict.fromkeys(names)):
+        fault("lacks the package scipy: pip install scipy", start.blocks().smooth)
+        fault("lacks the package xarray", start.to_xarray)
+        with pytest.warns(UserWarning, match="tqdm is missing"):
+            assert start.run(3, progress=True) == start.run(3)
+
+
+def test_a_scene_is_passed_as_its_text_or_its_path(tmp_path):
+    (tmp_path / "d=0.3.toml").write_text(AREA)
+    start = fhpgas.Lattice.load(AREA)
+    found = start.gas.name, start.chirality, start.seed, start.generation, start.solid.sum()
+    assert found == ("fhp1", "seeded", 7, 0, 12)
+    summary = fhpgas.Summary("fhp1", 66, 9, 12, start.particles)
+    for scene in (AREA, tmp_path / "d=0.3.toml", str(tmp_path / "d=0.3.toml"), start.scene()):
+        assert fhpgas.check(scene) == summary
+        assert fhpgas.run(scene, 5) == start.run(5)
+        assert fhpgas.coarse(scene, 5, 11, 4) == start.run(5).blocks(11, 4)
+    text = 'version = 2\ngas = "hpp" # cells = ["##"]\ncells = [\n  "##01", # a ] mark\n'
+    text += '  "0100",\n]\nchirality = "left"\nseed = 4\n'
+    wanted = fhpgas.Lattice([[0, 1], [1, 0]], [[1, 0], [0, 0]], "hpp", "left", 4, 9)
+    assert fhpgas.Lattice.load(text + "generation = 9") == wanted
+    vast = 'version = 2\ngas = "fhp1"\nwidth = 65536\nheight = 1024\nrate = 1000\n'
+    found = fhpgas.coarse(vast + "generation = 3\n", 1, 4096, 512)  # too long as a map
+    assert (found.fluid.shape, found.generation) == ((2, 16), 4)
+    assert {*found.particles.ravel().tolist()} == {6 * 4096 * 512}
+    wanted = fhpgas.Lattice.load(AREA.replace("seed = 7", "seed = 8"))
+    assert fhpgas.Lattice.load(fhpgas.with_seed(AREA, 8)) == wanted
+    assert [*tmp_path.iterdir()] == [tmp_path / "d=0.3.toml"]
+
+
+def test_frames_cost_as_many_generations_as_they_show():
+    start, times = fhpgas.Lattice.load(AREA), [*range(0, 101, 5)]
+    known = {"autospec": True, "side_effect": fhpgas.Lattice.run}
+    with mock.patch.object(fhpgas.Lattice, "run", **known) as run:
+        assert [each.generation for each in start.every(5, 20)] == times
+        points = start.driven(100, 5, flow=0.1)
+        assert [point.after.generation for point in points] == times
+    assert [each.args[1] for each in run.call_args_list] == [5] * 40
+
+
+def test_a_run_is_resumed_from_what_is_kept(tmp_path):
+    start, kept = fhpgas.Lattice.load(AREA), tmp_path / "kept"
+    later = start.run(3)
+    assert start.resume(later.text()).run(4) == start.run(7)
+    narrow = fhpgas.Lattice.load(AREA.replace("66", "64"))
+    fault("66 x 9 (columns x rows), and not 64 x 9", narrow.resume, later.text())
+    assert next(start.long_run(10, 4, kept)) == start.run(4)
+    assert [*start.long_run(10, 4, kept)] == [start.run(8), start.run(10)]
+    assert [*start.long_run(10, 4, kept)] == []
+    assert fhpgas.Lattice.load(kept) == start.run(10)
+    with np.load(kept) as found:
+        assert found["generation"] == 10
+    kept = tmp_path / "kept.toml"
+    assert next(start.long_run(10, 4, kept)) == start.run(4)
+    assert fhpgas.check(kept).particles == start.particles
+    later.save(kept)
+    for old, new, part in (
+        ("66", "64", "size is 66 x 9, and not 64 x 9"),
+        ("3, 4]", "3, 3]", "fluid is 582, and not 585"),
+        ("300", "301", f"particles is {start.particles}, and not"),
+        ("= 7", "= 8", "seed is 7, and not 8"),
+        ("fhp1", "fhp-rest", "gas is fhp1"),
+        ("seed", "chirality = 'left'\nseed", "chirality is seeded"),
+        ("gas", "version = 2\ngeneration = 4\ngas", "of generation 3, and it is of 4, with"),
+        ("gas", "version = 2\ngeneration = 3\ngas", "of generation 3, and it is of 3, with"),
+    ):
+        fault(part, fhpgas.Lattice.load(AREA.replace(old, new)).long_run, 10, 4, kept)
+    empty = start.replace(states=0 * start.states)
+    other = empty.replace(solid=np.roll(start.solid, 1, 0))
+    fault("other cells are solid", other.resume, empty.run(1).text())
+    is_early = AssertionError("it computes before it tries its file")
+    with mock.patch.object(engine, "advanced", side_effect=is_early):
+        fault("No such file", start.long_run, 10, 4, "/no/such/kept.toml")
+
+
+def test_masked_values_are_hidden_or_refused():
+    start = wind((64, 47))
+    blocks, odd = start.blocks(), np.arange(64 * 47).reshape(47, 64) % 2 == 1
+    image = blocks.plot(np.ma.masked_where(blocks.east > 0.1, blocks.east), Figure().subplots())
+    assert np.ma.getmaskarray(image.get_array())[blocks.east > 0.1].all()
+    gas, states = fhpgas.gas_named("fhp1"), np.ma.masked_where(odd, start.states)
+    size, thin = Size(64, 47), np.ma.masked_where(odd, 0.2 + 0 * odd)
+    walls, drawn = np.ma.masked_where(odd, odd), functools.partial(fhpgas.draw_gas, size=size)
+    for function, *words in (
+        (fhpgas.Lattice, states),
+        (fhpgas.Lattice, [*states]),
+        (fhpgas.Lattice, 0 * start.states, walls),
+        (fhpgas.draw_gas, thin),
+        (drawn, lambda X, Y: np.ma.masked_where(odd, 0 * X + 0 * Y), 0.0, 0.0),
+        (fhpgas.bitmap, size, walls),
+        (fhpgas.boltzmann.Flow, "fhp1", walls),
+        (fhpgas.equilibrium, gas, thin),
+        (fhpgas.theory.viscosity, gas, np.ma.masked_equal([0.2, 0.3], 0.3)),
+        (fhpgas.flux, gas, np.ma.masked_equal(start.counts(), start.counts()[2])),
+        (fhpgas.forces, start.run(1), walls),
+        (fhpgas.mean_and_error, [np.ma.masked_equal([1.0, 2.0], 2.0), np.array([1.0, 3.0])]),
+        (fhpgas.polygon, size, np.ma.masked_equal([(0, 0), (9, 0), (0, 9)], 9)),
+    ):
+        fault("a masked value is none", function, *words)
+
+
+def test_a_file_is_saved_where_a_link_points_and_never_over_what_is_no_file(tmp_path):
+    start, room = fhpgas.Lattice.load(AREA), tmp_path / "saved"
+    (room / "there").mkdir(parents=True)
+    target, link = room / "there/a.toml", room / "link.toml"
+    link.symlink_to(target)
+    start.save(link)
+    target.chmod(0o640)
+    start.run(1).save(link)
+    assert link.is_symlink() and target.stat().st_mode & 0o777 == 0o640
+    assert fhpgas.Lattice.load(target) == start.run(1)
+    os.mkfifo(room / "fifo")
+    for name in ("fifo", "there", "/dev/null"):
+        kept = lambda path: start.long_run(2, 1, path)
+        for call in (start.save, kept, start.blocks().save):
+            fault(f"{name} is no plain file", call, room / name)
+    lattices = [start.run(number) for number in range(8)]
+    shared = room / "shared.toml"
+    fhpgas.side_by_side(lambda lattice: [lattice.save(shared) for _ in range(20)], lattices)
+    assert fhpgas.Lattice.load(shared) in lattices
+    wanted = {"there", "a.toml", "link.toml", "fifo", "shared.toml"}
+    assert {path.name for path in room.rglob("*")} == wanted
+    with mock.patch.object(os, "replace", side_effect=KeyboardInterrupt):
+        pytest.raises(KeyboardInterrupt, start.save, shared)
+    (room / ".shared.toml.new").write_text("what a killed run left")
+    with mock.patch.object(os, "fsync", side_effect=os.fsync) as synced:
+        start.save(shared)
+    assert synced.called
+    assert {path.name for path in room.rglob("*")} == wanted
+    assert fhpgas.Lattice.load(shared) == start
+
+
+def test_a_refusal_names_its_file(tmp_path):
+    (path := tmp_path / "wrong.toml").write_text("x\n")
+    calls = fhpgas.check, fhpgas.Lattice.load, lambda path: fhpgas.with_seed(path, 1)
+    late = lambda path: fhpgas.Lattice.load(AREA).long_run(2, 1, path)
+    for call in *calls, lambda path: fhpgas.coarse(path, 1), late:
+        fault(f"{path}: scene: not TOML", call, path)
+    fhpgas.Lattice.load(AREA.replace("fhp1", "hpp")).save(path)
+    fault(f"{path}: the cells are", fhpgas.Lattice.load(AREA).long_run, 2, 1, path)
+
+
+@pytest.mark.parametrize("gas", GASES)
+def test_sums_by_direction_are_counted(gas):
+    lattice = wind((65, 33), gas).run(2)
+    flags = lattice.states >> np.arange(lattice.gas.directions)[:, None, None] & 1
+    rows = np.add.reduceat(flags, (0, 20), axis=1)
+    counts = np.add.reduceat(rows, (0, 30, 60), axis=2)
+    whole = flags.sum((1, 2))
+    assert lattice.counts(30, 20).tolist() == counts.tolist()
+    assert lattice.counts().tolist() == whole.tolist()
+    same(lattice.counts(None, 20), counts.sum(2, keepdims=True))
+    assert lattice.blocks(None, 9) == lattice.blocks(65, 9)
+    same(lattice.momentum, whole @ lattice.gas.velocities)
+    sums = lattice.blocks().px.sum(), lattice.blocks().py.sum()
+    same(lattice.momentum, np.multiply(lattice.gas.units, sums), 9)

@@ -1,27 +1,21 @@
-#!/usr/bin/env python3
 """Runs the notebooks of notebooks/: no cell may fail or warn, and all texts must be those that the notebook keeps. The last section of the
 first one also runs with other values, which its text invites one to try. With --keep the notebook keeps what this run shows, with pictures
-of few colours. Ends with the counts."""
+of few colours."""
 
 import base64
-import contextlib
 import io
 import itertools
-import os
-import sys
 
-sys.path.append(f"{sys.path[0]}/../lib")
 import needs
+import pytest
 
-os.environ["MPLBACKEND"] = "module://matplotlib_inline.backend_inline"  # as Jupyter chooses itself
-os.environ["PYDEVD_DISABLE_FILE_VALIDATION"] = "1"  # or the kernel's debugger warns
-needs.built_program()
 needs.libraries("nbclient", "nbformat", "ipykernel")
 
 import nbformat  # noqa: E402
 from nbclient import NotebookClient  # noqa: E402
 from PIL import Image  # noqa: E402
 
+NOTEBOOKS = sorted((needs.ROOT / "notebooks").glob("*.ipynb"))
 MOST_BYTES = 600_000
 CHOSEN = 'GAS, CHIRALITY, ROWS, FILLING = "fhp1", "seeded", 64, 0.3'
 TRIED = [
@@ -47,49 +41,33 @@ def shrink(cell):
             out["data"]["image/png"] = base64.b64encode(small.getvalue()).decode()
 
 
-def wrong(path):
-    """What is wrong with a notebook, after it ran."""
+@pytest.mark.parametrize("path", NOTEBOOKS, ids=lambda path: path.name)
+def test_a_notebook_shows_what_it_keeps(program, monkeypatch, request, path):
+    monkeypatch.setenv("MPLBACKEND", "module://matplotlib_inline.backend_inline")  # as Jupyter
+    monkeypatch.setenv("PYDEVD_DISABLE_FILE_VALIDATION", "1")  # or the kernel's debugger warns
     before = nbformat.read(path, 4)
     after = nbformat.from_dict(before)
     known = {"kernel_name": "python3", "resources": {"metadata": {"path": str(path.parent)}}}
     NotebookClient(after, timeout=needs.PATIENCE, **known).execute()
-    if "--keep" in sys.argv[1:]:
+    for kept, ran in [] if request.config.getoption("keep") else zip(before.cells, after.cells):
+        assert not any(out.get("name") == "stderr" for out in ran.get("outputs", [])), texts(ran)
+        assert texts(kept) == texts(ran)
+    if request.config.getoption("keep"):
         for cell in after.cells:
             shrink(cell)
             cell.metadata.pop("execution", None)
         nbformat.write(after, path)
-        return ""
-    for number, (kept, ran) in enumerate(zip(before.cells, after.cells)):
-        if any(out.get("name") == "stderr" for out in ran.get("outputs", [])):
-            return f"cell {number} warns: {texts(ran)}"
-        if texts(kept) != texts(ran):
-            return f"cell {number} shows\n{texts(ran)}\nand the notebook keeps\n{texts(kept)}"
-    return f"it has {path.stat().st_size} bytes" if path.stat().st_size > MOST_BYTES else ""
+    assert path.stat().st_size <= MOST_BYTES
 
 
-def fault_with(path, gas, side, filling):
-    """What fails if the gas, the chirality and the filling of the viscosity are others."""
-    cells = [cell.source for cell in nbformat.read(path, 4).cells if cell.cell_type == "code"]
-    first = next(n for n, source in enumerate(cells) if CHOSEN in source)
+@pytest.mark.parametrize("gas, side, filling", TRIED)
+def test_the_first_class_takes_other_values(program, monkeypatch, gas, side, filling):
+    """Of the gas, the chirality and the filling of its viscosity."""
+    monkeypatch.chdir(needs.ROOT / "notebooks")
+    monkeypatch.setenv("MPLBACKEND", "Agg")
+    notebook = nbformat.read("first_class.ipynb", 4)
+    cells = [cell.source for cell in notebook.cells if cell.cell_type == "code"]
+    first, names = next(n for n, source in enumerate(cells) if CHOSEN in source), {}
     chosen = f"GAS, CHIRALITY, ROWS, FILLING = {gas!r}, {side!r}, 64, {filling}"
-    names = {}
-    try:
-        with contextlib.redirect_stdout(io.StringIO()):
-            for source in (cells[0], *cells[first:]):
-                exec(source.replace(CHOSEN, chosen), names)
-    except Exception as fault:
-        return f"{type(fault).__name__} {fault}: {names.get('nu')} +- {names.get('error')}"
-    return ""
-
-
-def tried():
-    """Each notebook and other values, and what is wrong."""
-    for path in sorted((needs.ROOT / "notebooks").glob("*.ipynb")):
-        yield path.name, wrong(path)
-    os.chdir(needs.ROOT / "notebooks")
-    os.environ["MPLBACKEND"] = "Agg"
-    for values in TRIED if "--keep" not in sys.argv[1:] else []:
-        yield values, fault_with("first_class.ipynb", *values)
-
-
-sys.exit(needs.tell_wrong(tried()))
+    for source in (cells[0], *cells[first:]):
+        exec(source.replace(CHOSEN, chosen), names)

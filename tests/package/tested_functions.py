@@ -1,13 +1,12 @@
-#!/usr/bin/env python3
 """Checks tests/package/tested_functions.txt: every public function and field of the package has a
-line there, and its test calls it, itself or by a function of its script. Ends with the counts."""
+line there, and its test calls it, itself or by a function of its script."""
 
 import ast
+import functools
 import inspect
-import sys
 
-sys.path.append(f"{sys.path[0]}/../lib")
 import needs
+import pytest
 
 needs.libraries()
 import fhpgas  # noqa: E402
@@ -30,6 +29,7 @@ def public():
                 yield f"{module.__name__.rpartition('.')[2]}.{name}"
 
 
+@functools.cache
 def functions(script):
     """The functions of a script of this folder by name, with methods."""
     tree = ast.parse((needs.ROOT / f"tests/package/{script}.py").read_text())
@@ -51,20 +51,16 @@ def names(node, known, seen=()):
     return found
 
 
-def main():
-    text = (needs.ROOT / "tests/package/tested_functions.txt").read_text()
-    lines = [line.split(" | ") for line in text.splitlines() if line[0] != "#"]
-    rows = {name: test.split() for name, test, _ in lines}
-    wrong = [f"{name} has no line" for name in public() if name not in rows]
-    wrong += [f"{name} is no public function" for name in rows.keys() - {*public()}]
-    for name, (script, test) in rows.items():
-        known = functions(script)
-        if test not in known:
-            wrong.append(f"{name}: {script}.py has no {test}")
-        elif name.rpartition(".")[2] not in names(known[test], known):
-            wrong.append(f"{name}: {test} of {script}.py does not call it")
-    return needs.tell_faults(len(rows), wrong)
+TEXT = (needs.ROOT / "tests/package/tested_functions.txt").read_text()
+ROWS = [line.split(" | ") for line in TEXT.splitlines() if line[0] != "#"]
 
 
-if __name__ == "__main__":
-    sys.exit(main())
+def test_every_public_function_has_a_line():
+    assert {name for name, *_ in ROWS} == {*public()}
+
+
+@pytest.mark.parametrize("name, test, source", ROWS)
+def test_a_test_calls_the_function(name, test, source):
+    script, test = test.split()
+    known = functions(script)
+    assert name.rpartition(".")[2] in names(known[test], known)

@@ -1,50 +1,50 @@
-#!/usr/bin/env python3
-"""Uses the page from its file: in Chromium by real events of mouse, fingers and keys, in Firefox by a page that tests itself. Ends with the
-counts."""
+"""Uses the page from its file: in Chromium by real events of mouse, fingers and keys, in Firefox by a page that tests itself."""
 
 import base64
-import contextlib
 import hashlib
-import pathlib
 import re
 import shutil
 import subprocess
-import sys
-import tempfile
 import time
 
-sys.path.append(f"{sys.path[0]}/../lib")
 import needs
-from needs import check
+import pytest
 
-PROGRAM = needs.built_program()
-from tab import FILE, Late, Page
-from selenium.common.exceptions import WebDriverException
+needs.libraries("selenium")
 from selenium.webdriver.common.action_chains import ActionChains
 from selenium.webdriver.common.by import By
 from selenium.webdriver.common.keys import Keys
+from tab import FILE, Page
 
+pytestmark = pytest.mark.alone
 SOLID = [0x78, 0x82, 0x8C]
 KNOWN = 'gas = "fhp1"\nchirality = "left"\ncells = ["01........##", "..09......##", "......04..##", "..........##"]\n'
 QUICK = "#scene=flow past a disc&size=256 x 128&radius=14&gas=fhp1&pace=10"
 
 
-def tried(part, *words):
-    """What a part returns. One that does not come to its end has failed, and the next ones go on."""
-    try:
-        return part(*words)
-    except (Late, WebDriverException) as fault:
-        return check(part.__name__, False, fault)
+def close(*pages):
+    """What is closed asked nothing of other hosts, and has no error."""
+    assert [page.close() for page in pages] == [([], [])] * len(pages)
 
 
-def end(page, way):
-    """Closes the page. Nothing was asked of other hosts, and there is no error."""
-    strangers, errors = page.close()
-    check(f"{way}: no request leaves this computer", not strangers, strangers)
-    check(f"{way}: no error in the console", not errors, errors)
+@pytest.fixture
+def tab(tool, tmp_path):
+    """Opens the page in a tab."""
+    tool("chromium"), tool("chromedriver")
+    pages = []
+    yield lambda *words, **more: pages.append(Page(tmp_path, *words, **more)) or pages[-1]
+    close(*pages)
 
 
-def begins(page):
+@pytest.fixture(scope="module")
+def page(tool, tmp_path_factory):
+    """A window on a desk."""
+    tool("chromium"), tool("chromedriver")
+    yield (page := Page(tmp_path_factory.mktemp("room")))
+    close(page)
+
+
+def test_begins(page):
     """What is seen first."""
     page.wait("head.generation > 20")
     page.js(
@@ -52,54 +52,46 @@ def begins(page):
         "fhpgas.worker.addEventListener('message', ({ data }) => { sent += data.name === 'frames'; })"
     )
     moved = page.now("performance.getEntriesByName('moved')[0]")
-    check("one of the first two pictures has moved", moved["detail"] <= 2, moved["detail"])
+    assert moved["detail"] <= 2, "one of the first two pictures has moved"
     print(f"first motion after {moved['startTime']:.0f} ms")
     wanted = "The proved" if (FILE.parent / "engine.js").exists() else "The kernel"
-    check(
-        "the kernel is the one that is there, and the page says which",
-        page.wait(f"said.engine.startsWith('{wanted}')"),
-    )
+    # the kernel is the one that is there, and the page says which
+    assert page.wait(f"said.engine.startsWith('{wanted}')")
     look = "[...view.getContext('2d').getImageData(0, 0, view.width, 300).data].reduce((a, b, i) => (a * 31 + b * (i % 7)) | 0, 0)"
     first = page.now(look)
     page.wait(f"head.generation > {page.now('head.generation') + 20}")
-    check("the picture moves", page.now(look) != first)
-    check(
-        "each frame of the worker is painted or waits for its turn",
-        page.now("sent === shown.painted + shown.queue.length"),
-    )
-    check("the wind is kept", abs(page.now("head.u") - 0.28) < 0.02, page.now("head.u"))
+    assert page.now(look) != first, "the picture moves"
+    # each frame of the worker is painted or waits for its turn
+    assert page.now("sent === shown.painted + shown.queue.length")
+    assert abs(page.now("head.u") - 0.28) < 0.02, "the wind is kept"
     found = page.now("[chosen.tool, $('sentence').textContent.slice(0, 12), notes.length]")
-    check(
-        "one draws into it, and nothing else is said", found == ["draw", "Draw into it", 0], found
-    )
+    assert found == ["draw", "Draw into it", 0], "one draws into it, and nothing else is said"
     page.click("turn")
     page.wait("head.direction < 0 || head.found !== null")
     found = page.wait("head.found !== null && [head.found, head.generation]")
-    check("the first screen goes back to its start", found == [0, 0], found)
+    assert found == [0, 0], "the first screen goes back to its start"
     page.click("bare")
-    check(
-        "the picture without controls fills the window",
-        page.now("view.clientWidth === innerWidth && view.clientHeight === innerHeight"),
-    )
+    # the picture without controls fills the window
+    assert page.now("view.clientWidth === innerWidth && view.clientHeight === innerHeight")
     page.key("q")
-    check("a key shows the controls again", page.now("view.clientHeight < innerHeight"))
+    assert page.now("view.clientHeight < innerHeight"), "a key shows the controls again"
     reynolds = "const [, box] = $('numbers').children; return Number(box.firstChild.textContent)"
     found = [page.js(reynolds), page.choose("change", length="44"), page.js(reynolds)]
-    check("a shorter length changes Reynolds at once", abs(found[2] / found[0] - 0.5) < 0.01, found)
+    assert abs(found[2] / found[0] - 0.5) < 0.01, "a shorter length changes Reynolds at once"
     untold = "controls.filter((e) => !e.title).map((e) => e.id)"
-    check("every control says what it does", not page.now(untold), page.now(untold))
+    assert not page.now(untold), "every control says what it does"
     for close in lambda: page.key(Keys.ESCAPE), lambda: page.click("close"):
         page.key("?")
         told = page.now("$('help').innerText")
-        check("and a list too", "fhp-rest (FHP-II) has six and particles at rest" in told)
+        assert "fhp-rest (FHP-II) has six and particles at rest" in told, "and a list too"
         close()
-        check("which is closed", page.now("$('help').hidden && $('close').hidden"))
+        assert page.now("$('help').hidden && $('close').hidden"), "which is closed"
     page.key("=")
-    check("a key opens all numbers", "force per fluid cell" in page.now("$('all').textContent"))
+    assert "force per fluid cell" in page.now("$('all').textContent"), "a key opens all numbers"
     page.key("=")
 
 
-def edits(page):
+def edited(page):
     """Obstacles are drawn, erased, undone and cleared. Returns the generation of a pause, the scene of then, and an address with
     the number of solid cells that were there."""
     page.choose("change", keep=False)
@@ -107,16 +99,13 @@ def edits(page):
     page.wait("head.generation > 100")
     page.drag("draw", (120, 30), (150, 60), (170, 90))
     drawn = page.wait(f"solid > {solid} + 500 && solid")
-    check(
-        "an obstacle is drawn while it runs", "particles were beneath" in page.now("notes.at(-1)")
-    )
-    check(
-        "a button says what it undoes",
-        "undo stroke" in page.wait("shown.undoes && $('undo').textContent"),
-    )
+    # an obstacle is drawn while it runs
+    assert "particles were beneath" in page.now("notes.at(-1)")
+    # a button says what it undoes
+    assert "undo stroke" in page.wait("shown.undoes && $('undo').textContent")
     page.click("undo")
     page.wait(f"solid === {solid}")
-    check("a stroke is undone", page.now("head.particles") == particles)
+    assert page.now("head.particles") == particles, "a stroke is undone"
     page.drag("draw", (120, 30), (150, 60), (170, 90))
     page.drag("erase", (150, 60), (160, 70))
     page.wait(f"solid < {drawn}")
@@ -124,85 +113,73 @@ def edits(page):
         "window.kept = fhpgas.worker.onmessage, window.held = [], fhpgas.worker.onmessage = (event) => held.push(event)"
     )
     page.drag("draw", (200, 90), waits=False)
-    check(
-        "a click is shown before the gas has it", page.pixel(200, 90) == SOLID, page.pixel(200, 90)
-    )
+    assert page.pixel(200, 90) == SOLID, "a click is shown before the gas has it"
     page.js("fhpgas.worker.onmessage = kept, held.forEach(kept)")
     link, solid = page.wait(
         "!marks.pieces.length && head.lengths && location.hash.endsWith(`&runs=${head.lengths}`)"
         " && [location.hash, solid]"
     )
     page.drag("dense", (200, 40))
-    check("particles stay as many", particles == page.now("head.particles"))
+    assert particles == page.now("head.particles"), "particles stay as many"
     page.choose("change", chirality="right")
     page.wait("head.chirality === 'right'")
     generation, _ = page.pause()
-    check(
-        "how pairs turn changes in the same cells",
-        generation > 100 and page.now("head.particles") == particles,
-    )
+    # how pairs turn changes in the same cells
+    assert generation > 100 and page.now("head.particles") == particles
     return generation, page.saved("save", ".toml"), link, solid
 
 
-def continues(page, first, scene):
-    """The program continues the scene to the page's cells, and then time turns."""
+def test_edits(page, program):
+    """The program continues the scene of the edits to the page's cells, and then time turns. The address keeps what was drawn."""
+    page.go(QUICK)
+    first, scene, link, drawn = edited(page)
     page.choose("change", pace="most"), page.click("play")
     page.wait(f"head.generation >= {max(1000, first + 100)}")
     last, found = page.pause()
     told = page.now("$('numbers').textContent")
-    check("the numbers are of the cells that rest", told.startswith(f"{last:,}generation"), told)
-    words = [PROGRAM, "run", "--generations", str(last - first)]
+    assert told.startswith(f"{last:,}generation"), told  # the numbers are of the cells that rest
+    words = [program, "run", "--generations", str(last - first)]
     ran = subprocess.run(words, input=scene, stdout=subprocess.PIPE, check=True)
-    check(
-        "the program continues the saved scene to the page's cells",
-        found == hashlib.sha256(ran.stdout).hexdigest(),
-        (first, last),
-    )
-    check("the obstacle is in the saved scene", scene.count(b"##") + scene.count(b"\n") > 500)
+    # the program continues the saved scene to the page's cells
+    assert found == hashlib.sha256(ran.stdout).hexdigest(), (first, last)
+    assert scene.count(b"##") + scene.count(b"\n") > 500, "the obstacle is in the saved scene"
     page.click("turn")
     found = page.wait("head.found !== null && [head.found, head.generation]")
-    check(f"{last} generations back, through all edits", found == [0, 0], found)
+    assert found == [0, 0], f"{last} generations back, through all edits"
     page.click("play"), page.wait("head.generation >= 500"), page.choose("change", pace="60/s")
     page.click("turn"), page.click("play")
     page.drag("flip", (60, 60)), page.choose("change", pace="most"), page.click("play")
-    check(
-        "with one particle turned it does not return",
-        page.wait("head.found !== null && head.found") > 100,
-    )
+    # with one particle turned it does not return
+    assert page.wait("head.found !== null && head.found") > 100
+    page.go(link)
+    assert page.now("solid") == drawn
 
 
-def seeded(page):
+def test_seeded(page):
     """A seeded gas says why it does not go back, and goes on with left from the same cells. Another gas, or a new start."""
     page.go(QUICK + "&chirality=seeded")
     page.wait("head.generation > 50 && head.chirality === 'seeded'")
     page.click("turn")
-    check(
-        "a seeded gas does not go back, and says why",
-        "random bits only run forwards" in page.now("notes.at(-1)"),
-    )
+    # a seeded gas does not go back, and says why
+    assert "random bits only run forwards" in page.now("notes.at(-1)")
     page.click("offer")
     generation = page.wait("head.chirality === 'left' && head.generation")
-    check("it goes on with left from these cells", generation > 50)
+    assert generation > 50, "it goes on with left from these cells"
     page.choose("change", gas="fhp-rest")
-    check(
-        "a gas changes in the same cells",
-        page.wait("head.gas === 'fhp-rest' && head.generation") >= generation,
-    )
+    # a gas changes in the same cells
+    assert page.wait("head.gas === 'fhp-rest' && head.generation") >= generation
     particles = page.now("head.particles")
     page.choose("change", gas="hpp")
     page.wait("head.gas === 'hpp'")
-    check(
-        "what cannot be a gas's cells is a new start, and the page says so",
-        "new start" in page.wait("notes.at(-1)"),
-    )
+    # what cannot be a gas's cells is a new start, and the page says so
+    assert "new start" in page.wait("notes.at(-1)")
     page.click("undo")
-    check(
-        "a new start is undone", page.wait("head.gas === 'fhp-rest' && head.particles") == particles
-    )
-    check("the controls too", page.now("$('gas').value") == "fhp-rest")
+    # a new start is undone
+    assert page.wait("head.gas === 'fhp-rest' && head.particles") == particles
+    assert page.now("$('gas').value") == "fhp-rest", "the controls too"
 
 
-def cells(page):
+def test_cells(page):
     """Single cells, and half steps. A scene that is refused. Files."""
     page.open(KNOWN)
     page.wait("head.width === 6 && head.cells && !motion.isOn && !shown.queue.length")
@@ -211,50 +188,39 @@ def cells(page):
         page.pixel(1.5 + 0.28, 0.866),
         page.pixel(3.5 - 0.28, 0.866),
     )
-    check(
-        "single cells show their particles",
-        alone == page.pixel(3 + 0.15, 2 * 0.866 + 0.25) == [11, 60, 102],
-        alone,
-    )
-    check(
-        "colliding ones are orange, empty cells are empty",
-        meets == [209, 72, 15] and min(fluid) > 200,
-        (meets, fluid),
-    )
-    check(
-        "solid cells are drawn where they are", page.pixel(5, 0) == page.pixel(5.5, 0.866) == SOLID
-    )
+    # single cells show their particles
+    assert alone == page.pixel(3 + 0.15, 2 * 0.866 + 0.25) == [11, 60, 102]
+    # colliding ones are orange, empty cells are empty
+    assert meets == [209, 72, 15] and min(fluid) > 200, (meets, fluid)
+    # solid cells are drawn where they are
+    assert page.pixel(5, 0) == page.pixel(5.5, 0.866) == SOLID
     page.click("half"), page.wait("motion.phase === 1 && !screen.isScheduled")
-    check("half a step shows the pair turned", page.pixel(1.5 + 0.15, 0.866 - 0.25) == meets)
+    assert page.pixel(1.5 + 0.15, 0.866 - 0.25) == meets, "half a step shows the pair turned"
     page.click("link")
-    check(
-        "no link has a scene",
-        page.now("location.hash") == "#opened" or page.wait("location.hash === '#opened'"),
-    )
-    check("and the page says so", page.now("notes.at(-1)").startswith("No link has"))
+    # no link has a scene
+    assert page.now("location.hash") == "#opened" or page.wait("location.hash === '#opened'")
+    assert page.now("notes.at(-1)").startswith("No link has"), "and the page says so"
     notes = page.now("notes.length")
     page.open(KNOWN.replace("01", "41"))
     note = page.wait(f"notes.length > {notes} && notes.at(-1)")
-    check("a scene that is refused", note == "this page does not read cell 0 of row 0", note)
+    assert note == "this page does not read cell 0 of row 0", "a scene that is refused"
     paste = "const data = new DataTransfer(); data.setData('text', arguments[0]);"
     page.js(
         paste + "document.dispatchEvent(new ClipboardEvent('paste', { clipboardData: data }))",
         'gas = "hpp"\nwidth = 9\nheight = 8\nrate = 100\n',
     )
-    check("a scene is pasted", page.wait("head.width === 9 && head.gas") == "hpp")
+    assert page.wait("head.width === 9 && head.gas") == "hpp", "a scene is pasted"
     page.js(paste + "document.dispatchEvent(new DragEvent('drop', { dataTransfer: data }))", KNOWN)
-    check("a scene is dropped", page.wait("head.width === 6 && head.gas") == "fhp1")
-    check("a picture", page.saved("picture", ".png")[:8] == b"\x89PNG\r\n\x1a\n")
+    assert page.wait("head.width === 6 && head.gas") == "fhp1", "a scene is dropped"
+    assert page.saved("picture", ".png")[:8] == b"\x89PNG\r\n\x1a\n", "a picture"
     page.click("film"), page.click("play"), page.wait("head.generation > 3000")
-    check("a film", page.saved("film", ".webm")[:4] == b"\x1aE\xdf\xa3")
+    assert page.saved("film", ".webm")[:4] == b"\x1aE\xdf\xa3", "a film"
     scene = "$('scene').selectedOptions[0].text"
     found = [page.now(scene), page.click("start"), page.wait("head.width > 6"), page.now(scene)]
-    check(
-        "the list says what is shown", found[::3] == ["an opened scene", "flow past a disc"], found
-    )
+    assert found[::3] == ["an opened scene", "flow past a disc"], "the list says what is shown"
 
 
-def words(page):
+def test_words(page):
     """What is said in one moment is seen together, and words change with the picture."""
     page.go("#scene=one particle turned, and its cone&size=256 x 128")
     page.js(
@@ -265,7 +231,7 @@ def words(page):
     both = (
         "seen.some((text) => text.includes('cells are solid now') && text.includes('begins anew'))"
     )
-    check("a stroke, and that the cone begins anew", page.now(both), page.now("seen"))
+    assert page.now(both), ("a stroke, and that the cone begins anew", page.now("seen"))
     page.go(QUICK)
     page.js(  # the clock stands still, so that words change only because the picture does
         "window.told = [], window.kept = requestAnimationFrame, window.requestAnimationFrame = (paint) => kept(() => {"
@@ -273,14 +239,11 @@ def words(page):
     )
     page.wait("told.length > 2"), page.click("turn")
     told = page.wait("told.some(([direction]) => direction < 0) && told")
-    check(
-        "no picture of the way back without the word",
-        all((way < 0) == (kind == "back") for way, kind in told),
-        told,
-    )
+    # no picture of the way back without the word
+    assert all((way < 0) == (kind == "back") for way, kind in told), told
 
 
-def probe(page):
+def test_probe(page):
     """The words of the probe stand beside its chart, whole."""
     page.go(QUICK)
     page.click("probe")
@@ -293,81 +256,66 @@ def probe(page):
         "const [chart, words] = $('probed').children, box = words.getBoundingClientRect();"
         "return [chart.getBoundingClientRect().right, box.left, words.scrollWidth - words.clientWidth, box.right, innerWidth]"
     )
-    check(
-        "nothing of them is cut off",
-        edges[0] <= edges[1] and edges[2] == 0 and edges[3] <= edges[4],
-        edges,
-    )
+    # nothing of them is cut off
+    assert edges[0] <= edges[1] and edges[2] == 0 and edges[3] <= edges[4], edges
 
 
-def keyboard(page):
+def test_keyboard(page):
     """Focused controls keep their keys."""
     page.go(QUICK)
     page.js("$('erase').focus()")
     page.key(Keys.SPACE)
-    check(
-        "Space presses the focused button", page.now("chosen.tool === 'erase' && shown.isRunning")
-    )
+    # Space presses the focused button
+    assert page.now("chosen.tool === 'erase' && shown.isRunning")
     page.js("$('wind').focus()")
     page.key(Keys.ARROW_RIGHT)
-    check(
-        "arrows move the focused slider, and it keeps the focus",
-        page.now("[$('wind').value, document.activeElement.id]") == ["0.16", "wind"],
-    )
-    check(
-        "it says its value",
-        page.now("$('smooth').getAttribute('aria-valuetext')").endswith("cells"),
-    )
+    # arrows move the focused slider, and it keeps the focus
+    assert page.now("[$('wind').value, document.activeElement.id]") == ["0.16", "wind"]
+    # it says its value
+    assert page.now("$('smooth').getAttribute('aria-valuetext')").endswith("cells")
     serial = page.now("shown.serial")
     page.js("$('scene').focus()")
     page.key("v")
-    check(
-        "a letter in a list is the list's",
-        page.now("$('scene').value === 'vortex street' && $('film').textContent === 'filmv'"),
-    )
+    # a letter in a list is the list's
+    assert page.now("$('scene').value === 'vortex street' && $('film').textContent === 'filmv'")
     page.wait(f"shown.serial > {serial}")
     time.sleep(1.1)  # longer than one types on
     page.key("e")
-    check("and once it has changed, keys are the page's again", page.now("chosen.tool") == "erase")
+    assert page.now("chosen.tool") == "erase", "and once it has changed, keys are the page's again"
     page.go(QUICK), page.js("view.focus()")
     solid = page.wait("head.generation > 5 && solid")
     page.key("d", Keys.ARROW_UP, Keys.SPACE)
     page.wait(f"solid > {solid} + 300")
-    check("keys draw on the focused picture", page.now("shown.isRunning && marks.cursor"))
+    assert page.now("shown.isRunning && marks.cursor"), "keys draw on the focused picture"
     page.key(Keys.F4, "e")
-    check("letters are no keys if one wants", page.now("chosen.tool") == "draw")
+    assert page.now("chosen.tool") == "draw", "letters are no keys if one wants"
     page.js("document.activeElement.blur()"), page.key(Keys.F4)
     page.go(QUICK)
     serial = page.now("shown.serial")
     page.key(*"uuuuuu")
     page.wait(f"shown.serial >= {serial} + 6")
-    check("each of some quick presses counts", page.now("$('radius').value") == "26")
+    assert page.now("$('radius').value") == "26", "each of some quick presses counts"
 
 
-def address(page):
+def test_address(page):
     """The address keeps the state. Controls have names and keys of their own. A page that nobody sees rests."""
     asked = "field=__proto__", "seed=1e22", "at=5", "probe=1", "wind=9", "runs=hello world"
     page.go(f"#{'&'.join(asked)}")
     told = page.now("notes.at(-1)")
-    check("wrong addresses end in the default with a word", all(one in told for one in asked), told)
+    assert all(one in told for one in asked), told  # wrong addresses end in the default with a word
     edges = "['note', 'view'].map((id) => $(id).getBoundingClientRect()).flatMap(({ top, bottom }) => [top, bottom])"
     top, bottom, first, last = page.now(edges)
     while top == bottom:  # a slow machine looked after the note had gone
         page.go(f"#{'&'.join(asked)}")
         top, bottom, first, last = page.now(edges)
-    check(
-        "which lies below the picture's middle",
-        (first + last) / 2 < top < bottom < last,
-        (top, bottom, first, last),
-    )
+    assert (first + last) / 2 < top < bottom < last, "which lies below the picture's middle"
     page.go("#scene=empty channel&wind=0.1"), page.wait("notes.length")
-    check(
-        "an address of another drive says so", "its cells were other ones" in page.now("notes[0]")
-    )
+    # an address of another drive says so
+    assert "its cells were other ones" in page.now("notes[0]")
     page.go("#scene=empty channel&wind=0.1&drive=2"), page.wait("head.generation > 20")
-    check("one of this drive says nothing", page.now("notes.length") == 0, page.now("notes"))
+    assert page.now("notes.length") == 0, ("one of this drive says nothing", page.now("notes"))
     page.go("")
-    check("which runs", page.wait("head.generation > 20 && location.hash.includes('seed=1&')"))
+    assert page.wait("head.generation > 20 && location.hash.includes('seed=1&')"), "which runs"
     page.go("#at=1e9 1 1"), page.wait("notes.at(-1)?.includes('past the lattice') && look.isWhole")
     page.choose("change", scene="porous medium"), page.wait("head.wind === 0.04")
     page.choose("input", wind="0.06"), page.wait(
@@ -375,16 +323,14 @@ def address(page):
     )
     page.driver.refresh()
     page.wait("shown.painted > 2")
-    check(
-        "the address keeps the state",
-        page.now("[head.wind, $('scene').value, head.gas]") == [0.06, "porous medium", "fhp1"],
-    )
+    # the address keeps the state
+    assert page.now("[head.wind, $('scene').value, head.gas]") == [0.06, "porous medium", "fhp1"]
     bare = "controls.filter((e) => !(e.ariaLabel && e.getAttribute('aria-keyshortcuts'))).map((e) => e.id)"
-    check("every control has a name and a key", not (found := page.now(bare)), found)
+    assert not (found := page.now(bare)), found  # every control has a name and a key
     keys = page.now(
         "[...document.querySelectorAll('[aria-keyshortcuts]')].map((e) => e.getAttribute('aria-keyshortcuts'))"
     )
-    check("no key is of two controls", len(keys) == len(set(keys)), sorted(keys))
+    assert len(keys) == len(set(keys)), ("no key is of two controls", sorted(keys))
     page.js(
         "window.kept = requestAnimationFrame, window.requestAnimationFrame = () => 0; fhpgas.screen.isScheduled = false;"
         "kept(() => { window.isPast = true; })"  # after what was asked for before
@@ -392,7 +338,7 @@ def address(page):
     page.wait("window.isPast && shown.queue.length === 2")  # as many as the worker sends ahead
     first = page.now("head.generation")
     time.sleep(0.5)
-    check("a page that is not painted rests", page.now("head.generation") == first)
+    assert page.now("head.generation") == first, "a page that is not painted rests"
 
 
 def resize(page, width, height):
@@ -404,63 +350,41 @@ def resize(page, width, height):
     page.driver.execute_async_script(frames)
 
 
-def small(page):
-    """The windows of small laptops, with the panel folded."""
-    page.go(""), page.click("drawer")
-    for width, height, least in (1366, 650, 1050), (1024, 700, 960):
-        resize(page, width, height)
-        wide = page.now("head.width * look.place.scale")
-        check(f"the lattice is large at {width} x {height}", least <= wide <= width, wide)
-    resize(page, 500, 800)
-    page.open('gas = "none"\n')
-    page.wait("notes.at(-1) === 'this page does not read the gas none'")
-    edges = "[$('note').firstChild, $('numbers'), $('scene')].map((e) => e.getBoundingClientRect()).map((box) => [box.top, box.bottom])"
-    (top, _), (_, numbers), (_, scene) = page.now(edges)
-    check("a note lies on no number", top >= max(numbers, scene), (top, numbers, scene))
-
-
-def phone(room):
+def test_phone(tab):
     """A phone, held upright."""
-    page = Page(room, size=(390, 844), has_fingers=True)
-    check(
-        "the picture has 90 % of a phone's width",
-        page.now(
-            "head.width * look.place.scale >= 0.9 * innerWidth && document.documentElement.scrollWidth <= innerWidth"
-        ),
+    page = tab(size=(390, 844), has_fingers=True)
+    # the picture has 90 % of a phone's width
+    assert page.now(
+        "head.width * look.place.scale >= 0.9 * innerWidth && document.documentElement.scrollWidth <= innerWidth"
     )
     solid = page.now("solid")
     page.touch([(200, 120)], [(220, 130)], [(240, 150)])
     page.wait(f"solid > {solid}")
-    check("one finger draws", True)
     scale, solid = page.wait("!marks.pieces.length && [look.place.scale, solid]")
     page.touch([(150, 150), (250, 150)], [(100, 150), (300, 150)])
-    check("two fingers zoom", abs(page.now("look.place.scale") / scale - 2) < 0.05)
-    check("and draw nothing", page.now("solid") == solid)
+    assert abs(page.now("look.place.scale") / scale - 2) < 0.05, "two fingers zoom"
+    assert page.now("solid") == solid, "and draw nothing"
     page.click("drawer")
-    check("a drawer opens", page.driver.find_element(By.ID, "gas").is_displayed())
+    assert page.driver.find_element(By.ID, "gas").is_displayed(), "a drawer opens"
     page.click("drawer")
-    check("and closes", not page.driver.find_element(By.ID, "gas").is_displayed())
-    end(page, "phone")
+    assert not page.driver.find_element(By.ID, "gas").is_displayed(), "and closes"
 
 
-def side(room):
+def test_side(tab):
     """A phone on its side."""
-    page = Page(room, size=(844, 390), has_fingers=True)
+    page = tab(size=(844, 390), has_fingers=True)
     wide = page.now("[innerWidth, head.width * look.place.scale / innerWidth]")
-    check("on its side too", wide[0] == 844 and 0.9 <= wide[1] <= 1, wide)
+    assert wide[0] == 844 and 0.9 <= wide[1] <= 1, wide  # on its side too
     page.click("drawer")
     lost = "controls.filter((e) => !e.hidden && !e.getClientRects().length).map((e) => e.id)"
-    check("every control can be reached", not page.now(lost), page.now(lost))
+    assert not page.now(lost), "every control can be reached"
     page.click("drawer"), page.click("bare")
-    check(
-        "alone the picture keeps one control",
-        len(page.now(lost)) > 40 and "bare" not in page.now(lost),
-    )
+    # alone the picture keeps one control
+    assert len(page.now(lost)) > 40 and "bare" not in page.now(lost)
     page.click("bare")
-    check("which shows the others again", "turn" not in page.now(lost))
+    assert "turn" not in page.now(lost), "which shows the others again"
     page.click("turn")
-    check("the gas turns", page.wait("head.direction < 0 || head.found === 0"))
-    end(page, "phone on its side")
+    assert page.wait("head.direction < 0 || head.found === 0"), "the gas turns"
 
 
 MESSAGE = "#scene=a message in the noise&size=256 x 128&pace=most"
@@ -475,95 +399,77 @@ CONTRAST = (
 )
 
 
-def message(room):
+def test_message(tab):
     """Somebody writes a message, and others open its link in browsers of their own."""
-    page = Page(room, MESSAGE)
-    check("it rests, and is noise", page.now("!shown.isRunning && head.generation === 3000"))
+    page = tab(MESSAGE)
+    assert page.now("!shown.isRunning && head.generation === 3000"), "it rests, and is noise"
     page.js("$('text').value = 'x'.repeat(300)"), page.choose("change", text="x" * 300)
-    check(
-        "a long text is refused with a number",
-        "of them fit" in page.now("notes.at(-1)"),
-        page.now("notes"),
-    )
+    # a long text is refused with a number
+    assert "of them fit" in page.now("notes.at(-1)"), page.now("notes")
     serial = page.now("shown.serial")
     page.choose("change", text="i"), page.wait(f"shown.serial > {serial}")
     is_of_one_sign = "/&text=.{3}$/.test(location.hash)"  # two letters are a sum
     link = page.wait(f"{is_of_one_sign} && head.generation === 3000 && location.hash")
-    check("its address does not show the text", "text=i" not in link.lower(), link)
+    assert "text=i" not in link.lower(), "its address does not show the text"
     page.click("send"), page.wait("notes.length > 1")
-    check("a button copies the link", "link" in page.now("notes.at(-1)"), page.now("notes"))
-    end(page, "who writes")
-    page = Page(room, link)
-    check(
-        "the reader does not see it", page.now("$('text').value === '' && head.generation === 3000")
-    )
-    check("nor in the noise", abs(page.now(CONTRAST)) < 25, page.now(CONTRAST))
+    assert "link" in page.now("notes.at(-1)"), ("a button copies the link", page.now("notes"))
+    page = tab(link)
+    # the reader does not see it
+    assert page.now("$('text').value === '' && head.generation === 3000")
+    assert abs(page.now(CONTRAST)) < 25, "nor in the noise"
     page.click("turn")
     found = page.wait("head.found !== null && [head.found, head.generation]")
-    check("it comes back", found == [0, 0], found)
-    check("and can be read", page.wait(f"{CONTRAST} > 60"))
+    assert found == [0, 0], "it comes back"
+    assert page.wait(f"{CONTRAST} > 60"), "and can be read"
     told = page.now("[$('numbers').children[1].textContent, notes.at(-1)]")
-    check(
-        "0 cells differ, and one is to be turned",
-        told == ["0of 32,768 cells differ", "Now turn one particle (t), and try again."],
-        told,
-    )
+    # 0 cells differ, and one is to be turned
+    assert told == ["0of 32,768 cells differ", "Now turn one particle (t), and try again."]
     page.click("again"), page.wait("head.generation === 3000 && head.found === null")
     page.drag("flip", (60, 60)), page.click("turn")
-    check("with one turned it does not", page.wait("head.found !== null && head.found") > 1000)
-    check("and cannot be read", abs(page.now(CONTRAST)) < 25, page.now(CONTRAST))
+    assert page.wait("head.found !== null && head.found") > 1000, "with one turned it does not"
+    assert abs(page.now(CONTRAST)) < 25, "and cannot be read"
     told = page.now("notes.length")
     page.choose("change", scene="one particle turned, and its cone")
     found = page.wait(
         f"notes.at(-1).startsWith('One of') && head.generation === 0 && notes.slice({told})"
     )
-    check("a new start says nothing of the cells before", len(found) == 1, found)
+    assert len(found) == 1, "a new start says nothing of the cells before"
     page.go(f"{MESSAGE}&text=HELLO"), page.wait("notes.length")
-    check(
-        "a broken text is the default, and it is said",
-        "text=HELLO" in page.now("notes.at(-1)") and page.now("chosen.text") == "HELLO",
-    )
+    # a broken text is the default, and it is said
+    assert "text=HELLO" in page.now("notes.at(-1)") and page.now("chosen.text") == "HELLO"
     page.go("#scene=an L that comes back&size=256 x 128&runs=rs.5.3j.5")
     found = page.wait("head.generation === 3000 && [$('scene').value, chosen.text, solid]")
-    check(
-        "an older address of the L opens it, with what was drawn",
-        found == ["a message in the noise", "L", 10],
-        found,
-    )
-    end(page, "who reads")
+    # an older address of the L opens it, with what was drawn
+    assert found == ["a message in the noise", "L", 10]
 
 
-def large(room):
-    page = Page(room, "#scene=sound ring", (1920, 1080))
-    check(
-        "it rests, and a button waits",
-        page.now(
-            "!shown.isRunning && head.generation === 0 && $('play').className.includes('waits')"
-        ),
+def test_large(tab):
+    page = tab("#scene=sound ring", (1920, 1080))
+    # it rests, and a button waits
+    assert page.now(
+        "!shown.isRunning && head.generation === 0 && $('play').className.includes('waits')"
     )
     page.click("play")
     front = "$('numbers').children[1].textContent.match(/^0[.]7.( [|] 0[.]7.)?speed of the front$/)"
-    check("the front runs as fast as sound", page.wait(front))
+    assert page.wait(front), "the front runs as fast as sound"
     wide = page.now("$('play').clientWidth")
     page.pause()
-    check("buttons keep their width", page.now("$('play').clientWidth") == wide)
-    check("letters follow the window", page.now("getComputedStyle($('sentence')).fontSize > '22'"))
+    assert page.now("$('play').clientWidth") == wide, "buttons keep their width"
+    assert page.now("getComputedStyle($('sentence')).fontSize > '22'"), "letters follow the window"
     page.drag("draw", (200, 30), (230, 60))
     page.click("turn")
-    check(
-        "it comes back", page.wait("head.found !== null && [head.found, head.generation]") == [0, 0]
-    )
+    # it comes back
+    assert page.wait("head.found !== null && [head.found, head.generation]") == [0, 0]
     page.click("undo"), page.wait("notes.at(-1).startsWith('The way back has undone')")
-    check("undo then draws nothing", page.now("head.fluid === head.width * head.height"))
+    assert page.now("head.fluid === head.width * head.height"), "undo then draws nothing"
     page.choose("change", scene="HPP's knotted ring beside FHP's"), page.wait(
         "shown.frames.length === 2"
     )
     page.click("play")
-    check("two gases have both their numbers", page.wait(front))
-    end(page, "large")
+    assert page.wait(front), "two gases have both their numbers"
 
 
-def moves(page):
+def test_moves(page):
     """Middle button and space move the picture, single cells slow the pace, and give it back."""
     page.go(QUICK)
     solid, x = page.wait("head.generation > 5 && [solid, look.place.x]")
@@ -577,16 +483,16 @@ def moves(page):
         send("Mouse", **mouse | {"type": "mouseMoved", "x": 450, "button": button})
         send("Mouse", **mouse | {"type": "mouseReleased", "x": 450, "button": button})
         moved = page.wait(f"look.place.x !== {x} && look.place.x")
-        check(f"{button} button moves the picture", moved < x, (moved, x))
+        assert moved < x, f"{button} button moves the picture"
         x = moved
     send("Key", **space | {"type": "keyUp"})
-    check("nothing was drawn, and it still runs", page.now(f"solid === {solid} && shown.isRunning"))
+    assert page.now(f"solid === {solid} && shown.isRunning"), "nothing was drawn, and it still runs"
     page.key(Keys.SPACE), page.wait("!shown.isRunning")
     page.key(Keys.SPACE), page.wait("shown.isRunning")
     page.choose("change", pace="300/s")
     for delta, pace in (-2400, "1 s"), (2400, "300/s"):
         send("Mouse", **mouse | {"type": "mouseWheel", "deltaX": 0, "deltaY": delta})
-        check(f"the wheel sets the pace to {pace}", page.wait(f"$('pace').value === '{pace}'"))
+        assert page.wait(f"$('pace').value === '{pace}'"), f"the wheel sets the pace to {pace}"
 
 
 WINDOWS = (667, 375), (568, 320), (640, 400), (683, 350), (320, 480), (844, 390), (390, 844)
@@ -601,15 +507,30 @@ return [out.map(([name]) => name), over, cut.map((e) => e.textContent), ['scene'
 """
 
 
-def windows(page):
+def test_windows(page):
     """Nothing lies on anything else in small windows, and nothing leaves them."""
     for scene in "flow past a plate", "a message in the noise":
         page.go(f"#scene={scene}&size=256 x 128&drive=2"), page.click("drawer")
         for size in WINDOWS:
             resize(page, *size)
             page.wait("!screen.isScheduled || shown.isRunning")
-            check(f"{scene} at {size}", (found := page.js(BOXES)) == [[], [], [], []], found)
+            assert page.js(BOXES) == [[], [], [], []], f"{scene} at {size}"
     resize(page, 1300, 860)
+
+
+def test_small(page):
+    """The windows of small laptops, with the panel folded."""
+    page.go(""), page.click("drawer")
+    for width, height, least in (1366, 650, 1050), (1024, 700, 960):
+        resize(page, width, height)
+        wide = page.now("head.width * look.place.scale")
+        assert least <= wide <= width, f"the lattice is large at {width} x {height}"
+    resize(page, 500, 800)
+    page.open('gas = "none"\n')
+    page.wait("notes.at(-1) === 'this page does not read the gas none'")
+    edges = "[$('note').firstChild, $('numbers'), $('scene')].map((e) => e.getBoundingClientRect()).map((box) => [box.top, box.bottom])"
+    (top, _), (_, numbers), (_, scene) = page.now(edges)
+    assert top >= max(numbers, scene), "a note lies on no number"
 
 
 SELF_TEST = """
@@ -632,35 +553,28 @@ const until = async (isSo) => { for (let n = 0; n < 20000 && !isSo(); n++) await
 """
 
 
-def firefox(room):
+def test_firefox(tmp_path):
     """In Firefox a copy of the page tests itself, and dumps what it finds. Its policy allows the test too."""
     program = shutil.which("firefox-esr") or shutil.which("firefox")
     if not program:
-        return ["firefox-esr is missing"]
+        pytest.skip("firefox-esr is missing")
     engine = FILE.parent / "engine.js"
     script = SELF_TEST.replace("@ENGINE@", "The proved" if engine.exists() else "The kernel")
     code = base64.b64encode(hashlib.sha256(script.encode()).digest()).decode()
     text = re.sub("(script-src )", rf"\1'sha256-{code}' ", FILE.read_text("utf-8"), count=1)
-    (room / "page.html").write_text(
+    (tmp_path / "page.html").write_text(
         text.replace("</html>", f"<script>{script}</script>\n</html>"), "utf-8"
     )
     if engine.exists():
-        shutil.copy(engine, room)
-    (room / "user.js").write_text(
+        shutil.copy(engine, tmp_path)
+    (tmp_path / "user.js").write_text(
         'user_pref("browser.dom.window.dump.enabled", true);\nuser_pref("browser.shell.checkDefaultBrowser", false);\n'
     )
-    words = [
-        program,
-        "--headless",
-        "--no-remote",
-        "--profile",
-        str(room),
-        f"file://{room}/page.html{QUICK.replace(' ', '%20')}",
-    ]
+    address = f"file://{tmp_path}/page.html{QUICK.replace(' ', '%20')}"
+    words = [program, "--headless", "--no-remote", "--profile", str(tmp_path), address]
     found = []
-    with subprocess.Popen(
-        words, stdout=subprocess.PIPE, stderr=subprocess.DEVNULL, text=True
-    ) as browser:
+    pipes = {"stdout": subprocess.PIPE, "stderr": subprocess.DEVNULL, "text": True}
+    with subprocess.Popen(words, **pipes) as browser:
         try:
             for line in browser.stdout:
                 found += re.findall("RESULT (.*)", line)
@@ -668,35 +582,4 @@ def firefox(room):
                     break
         finally:
             browser.terminate()
-    for line in found[:-1]:
-        check(f"Firefox: {line[2:]}", line[0] == "1")
-    check("Firefox tested all", len(found) == 5, found)
-    return []
-
-
-def desk(room):
-    """A window on a desk."""
-    page = Page(room)
-    tried(begins, page)
-    page.go(QUICK)
-    if edited := tried(edits, page):
-        *paused, link, solid = edited
-        tried(continues, page, *paused)
-        page.go(link)
-        found = page.now("solid")
-        check("the address keeps what was drawn", found == solid, (found, solid))
-    for part in seeded, cells, words, probe, keyboard, address, moves, windows, small:
-        tried(part, page)
-    end(page, "desk")
-
-
-def main():
-    with tempfile.TemporaryDirectory() as folder:
-        for part in desk, message, phone, side, large:
-            tried(part, pathlib.Path(folder))
-    with tempfile.TemporaryDirectory() as folder, contextlib.suppress(OSError):
-        left_out = firefox(pathlib.Path(folder))
-    return needs.tell_checks(*left_out)
-
-
-sys.exit(main())
+    assert len(found) == 5 and all(line[0] == "1" for line in found[:-1]), found

@@ -1,8 +1,10 @@
 // Compares the page's kernel with the program, bit for bit, and its key stream with RFC 8439: the one in page/fhpgas.html, and, where `make`
 // left page/engine.js, the proved engine.
-//   node tests/page/kernel.mjs        the program is FHPGAS, or ./fhpgas
+//   node --test tests/page/kernel.mjs        the program is FHPGAS, or ./fhpgas
+import assert from "node:assert/strict";
 import { spawnSync } from "node:child_process";
 import { existsSync, readFileSync, readdirSync } from "node:fs";
+import { test } from "node:test";
 import { fileURLToPath } from "node:url";
 import { maker } from "../../page/built.mjs";
 import { Flow } from "../../page/src/flow.js";
@@ -10,7 +12,6 @@ import { GASES, SOLID } from "../../page/src/gases.js";
 import { block } from "../../page/src/keystream.js";
 import { fillStates, printed, readScene, sceneOf } from "../../page/src/scenes.js";
 import { gathered, sumsOf } from "../../page/src/sums.js";
-import { check, end, tried } from "../lib/checks.mjs";
 import { lots } from "../lib/random_numbers.mjs";
 
 const root = fileURLToPath(new URL("../..", import.meta.url)), program = process.env.FHPGAS ?? `${root}fhpgas`;
@@ -74,13 +75,13 @@ function map(number) {
     flow.cells.fill(cells);
     flow.begin();
     for (let left = generations; left > 0; left -= 37) flow.advance(Math.min(37, left));
-    const name = `map ${number}, ${kernel}: ${gas.name}, ${chirality}, ${width} x ${height}, ${generations} generations`;
-    check(name, printed(flow) === `${line}\n${theirs.join("\n")}\n`);
+    const name = `${kernel}: ${gas.name}, ${chirality}, ${width} x ${height}, ${generations} generations`;
+    assert.equal(printed(flow), `${line}\n${theirs.join("\n")}\n`, name);
     const [wide, tall] = [random.of([1, 2, 4, 8, 16, 32]), 1 + random.below(height)];
-    check(`sums of ${name}`, sameSums(flow, wide, tall));
+    assert.ok(sameSums(flow, wide, tall), `sums of ${name}`);
   }
 }
-for (let number = 0; number < MAPS; number++) tried(`map ${number}`, () => map(number));
+for (let number = 0; number < MAPS; number++) test(`map ${number}`, () => map(number));
 
 // the filling of areas
 function area(number) {
@@ -91,25 +92,23 @@ function area(number) {
   cells[0] = SOLID;
   fillStates(gas, cells, seed, Array(gas.directions).fill(rate));
   const [, ...theirs] = run(textOf({ gas: `"${gas.name}"`, width, height, rate, seed, solid: "[[0, 0, 1, 1]]" }), 0);
-  check(`area ${number}: ${gas.name}, ${width} x ${height}`, rowsOf(cells, width, height).join("\n") === theirs.join("\n"));
+  assert.equal(rowsOf(cells, width, height).join("\n"), theirs.join("\n"), `${gas.name}, ${width} x ${height}`);
 }
-for (let number = 0; number < AREAS; number++) tried(`area ${number}`, () => area(number));
+for (let number = 0; number < AREAS; number++) test(`area ${number}`, () => area(number));
 
 // the scenes of the repository, as the page reads them
 function scene(name) {
   const text = readFileSync(`${root}scenes/${name}`, "utf8"), { states, width, height } = readScene(text, 1 << 20);
-  check(`scenes/${name}`, rowsOf(states, width, height).join("\n") === run(text, 0).slice(1).join("\n"));
+  assert.equal(rowsOf(states, width, height).join("\n"), run(text, 0).slice(1).join("\n"));
 }
-for (const name of readdirSync(`${root}scenes`).filter((file) => file.endsWith(".toml"))) tried(name, () => scene(name));
+for (const name of readdirSync(`${root}scenes`).filter((file) => file.endsWith(".toml"))) test(name, () => scene(name));
 
 // sizes of 2^32 cells or blocks, which 32 bits can't count, are refused before anything is read
-for (const [name, make] of Object.entries(kernels)) {
-  tried(`the largest size, ${name}`, () => {
-    const { calls, number } = make(ALL[0], 1, 1), words = (planes) => [0, planes * 2 ** 26].map(number), none = [0, 0].map(number), LENGTH = 7;
-    check(`unpack, ${name}`, calls.fhpgas_unpack(1, 65536, 65536, ...words(1), ...none) === LENGTH);
-    check(`sums, ${name}`, calls.fhpgas_sums(ALL[0].number, 65536, 65536, 1, 1, ...words(1), ...words(ALL[0].directions), ...none) === LENGTH);
-  });
-}
+for (const [name, make] of Object.entries(kernels)) test(`the largest size, ${name}`, () => {
+  const { calls, number } = make(ALL[0], 1, 1), words = (planes) => [0, planes * 2 ** 26].map(number), none = [0, 0].map(number), LENGTH = 7;
+  assert.equal(calls.fhpgas_unpack(1, 65536, 65536, ...words(1), ...none), LENGTH);
+  assert.equal(calls.fhpgas_sums(ALL[0].number, 65536, 65536, 1, 1, ...words(1), ...words(ALL[0].directions), ...none), LENGTH);
+});
 
 // RFC 8439: the block of 2.3.2, and the test vectors 1 to 5 of appendix A.1
 const hex = (text) => Uint8Array.from(text.match(/../g), (two) => parseInt(two, 16));
@@ -128,13 +127,12 @@ const VECTORS = [
   [zeros(32), 0, zeros(11) + "02",
     "c2c64d378cd536374ae204b9ef933fcd1a8b2288b3dfa49672ab765b54ee27c78a970e0e955c14f3a88e741b97c286f75f8fc299e8148362fa198a39531bed6d"],
 ];
-for (const [key, counter, nonce, wanted] of VECTORS) {
+for (const [key, counter, nonce, wanted] of VECTORS) test(`RFC 8439, counter ${counter}`, () => {
   const state = new Int32Array(16), bytes = new DataView(state.buffer), out = new Int32Array(16);
   [0x61707865, 0x3320646e, 0x79622d32, 0x6b206574].forEach((word, i) => bytes.setUint32(4 * i, word, true));
   hex(key).forEach((byte, i) => bytes.setUint8(16 + i, byte));
   bytes.setUint32(48, counter, true);
   hex(nonce).forEach((byte, i) => bytes.setUint8(52 + i, byte));
   block(state, out, 0);
-  check(`RFC 8439, counter ${counter}`, Buffer.from(out.buffer).equals(Buffer.from(hex(wanted))));
-}
-end(MAPS);
+  assert.equal(Buffer.from(out.buffer).toString("hex"), wanted);
+});

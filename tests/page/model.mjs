@@ -1,6 +1,6 @@
 // Tries what the page computes beside its kernel: the way back through random histories, the drive, the probe, and each number
 // that is shown. Then builds the page again, if esbuild has the version of page/build.mjs, and checks its types.
-//   node tests/page/model.mjs [HISTORIES] [RUNS OF NOISE]
+//   node tests/page/model.mjs [HISTORIES] [RUNS OF NOISE], or node --test tests/page/model.mjs
 //
 // number                        | known from
 // viscosity ν                   | Frisch and others, Complex Systems 1 (1987) 649, as docs/PHYSICS.md has it
@@ -14,8 +14,10 @@
 // fastest block, incoming, blocked part | a drawn flow whose speed is one, and the geometry of a disc
 // generation, differing cells   | counted here
 // updates, frames per second    | tests/page/browser.py, by the clock of the browser
+import assert from "node:assert/strict";
 import { spawnSync } from "node:child_process";
 import { mkdtempSync, readFileSync, rmSync } from "node:fs";
+import { test } from "node:test";
 import { fileURLToPath } from "node:url";
 import { maker } from "../../page/built.mjs";
 import { Flow } from "../../page/src/flow.js";
@@ -29,11 +31,12 @@ import { periodOf } from "../../page/src/probe.js";
 import { readScene, sceneOf } from "../../page/src/scenes.js";
 import { drawn } from "../../page/src/starts.js";
 import { Stroke, cleared, dense, flipOne } from "../../page/src/tools.js";
-import { check, end, near, tried } from "../lib/checks.mjs";
 import { lots } from "../lib/random_numbers.mjs";
 
 const root = fileURLToPath(new URL("../..", import.meta.url)), [histories = 60, noises = 12] = process.argv.slice(2).map(Number);
 const make = await maker();
+const near = (what, found, wanted, error) => assert.ok(Math.abs(found - wanted) <= error, `${what}: ${found}, not ${wanted}`);
+const isNear = (what, ...numbers) => test(what, () => near(what, ...numbers));
 const FIRST = { gas: "fhp1", chirality: "left", width: 128, height: 64, filling: 0.2, wind: 0, keep: false, shape: "none", radius: 4, seed: "3" };
 const DISC = { gas: "fhp-rest", width: 256, height: 128, filling: 0.18, wind: 0.2, keep: true, shape: "disc", radius: 11, seed: "1" };
 const flowOf = (others) => drawn(make, { ...FIRST, ...others });
@@ -61,18 +64,17 @@ function history(number) {
     else if (kind === 7) cleared(flow);
     else if (flow.generation > 0) {
       flow.back();
-      if (flow.found !== null) return check(`history ${number}: one step back`, flow.found === 0 && flow.cells.differing(first) === 0);
+      if (flow.found !== null) return assert.ok(flow.found === 0 && flow.cells.differing(first) === 0, `history ${number}: one step back`);
     }
   }
-  check(`history ${number}: particles`, flow.totals()[1] === particles);
+  assert.equal(flow.totals()[1], particles, `history ${number}: particles`);
   const copy = readScene(sceneOf(flow), 1 << 20), isEqual = (state, at) => state === flow.cells.state(at);
-  check(`history ${number}: its scene is read back`, copy.states.every(isEqual) && copy.generation === flow.generation);
+  assert.ok(copy.states.every(isEqual) && copy.generation === flow.generation, `history ${number}: its scene is read back`);
   flow.turn();
   if (flow.found === null) flow.advance(flow.generation + 1);
-  check(`history ${number}: back at its start`, flow.found === 0 && flow.generation === 0 && flow.cells.differing(first) === 0,
-    `${flow.found} cells differ at ${flow.generation}`);
+  assert.ok(flow.found === 0 && flow.generation === 0 && flow.cells.differing(first) === 0, `history ${number}: back at its start: ${flow.found} cells differ at ${flow.generation}`);
 }
-for (let number = 0; number < histories; number++) tried(`history ${number}`, () => history(number));
+for (let number = 0; number < histories; number++) test(`history ${number}`, () => history(number));
 
 // Undo, clear and strokes before, on and after the way back, in any order: the solid cells of a generation are those that it had forwards,
 // but for what was done on the way back and not undone.
@@ -81,7 +83,7 @@ function undoing(number) {
   const experiment = Object.assign(new Experiment(), { make }), keep = random.chance() < 0.5;
   experiment.start({ starts: [{ ...FIRST, gas: gas.name, width, height, wind: 0.1, keep, shape: random.of(["none", "disc"]), seed: "1" }], state: "" });
   const [{ flow }] = experiment.watched, solid = () => Array.from({ length: width * height }, (_, at) => flow.cells.isSolid(at));
-  const place = () => [random.below(width), random.below(height) * gas.apart], same = (what, isSo) => check(`undoing ${number}: ${what}`, isSo);
+  const place = () => [random.below(width), random.below(height) * gas.apart], same = (what, isSo) => assert.ok(isSo, `undoing ${number}: ${what}`);
   const done = [], forwards = [solid()]; // what can be undone, and the solid cells by generation, before its changes
   let changes = [], removed = [], origin = 0; // changes forwards, and what was undone on the way back before it came there
   const act = (change) => {
@@ -134,10 +136,10 @@ function undoing(number) {
     }
   }
 }
-for (let number = 0; number < histories; number++) tried(`undoing ${number}`, () => undoing(number));
+for (let number = 0; number < histories; number++) test(`undoing ${number}`, () => undoing(number));
 
 // A small memory of patches is cut, and the gas comes back to where it still reaches.
-tried("a way back that was cut", () => {
+test("a way back that was cut", () => {
   const flow = flowOf({ wind: 0.1, keep: true, shape: "porous" });
   flow.history.most = 20000;
   flow.advance(300);
@@ -145,45 +147,45 @@ tried("a way back that was cut", () => {
   flow.turn();
   flow.advance(1000);
   const isBack = origin > 0 && flow.generation === origin && flow.found === 0;
-  check("a way back that was cut", isBack && flow.notes.some((note) => note.includes("64 MB")), [origin, flow.generation, flow.found]);
+  assert.ok(isBack && flow.notes.some((note) => note.includes("64 MB")), `a way back that was cut: ${[origin, flow.generation, flow.found]}`);
 });
 
 // One particle turned on the way changes what comes back.
-tried("one particle turned on the way back", () => {
+test("one particle turned on the way back", () => {
   const flow = flowOf({});
   flow.advance(200);
   flow.turn();
   flipOne(flow, [60, 30]);
   flow.advance(1000);
-  check("one particle turned on the way back", flow.generation === 0 && flow.found > 100, flow.found);
+  assert.ok(flow.generation === 0 && flow.found > 100, `one particle turned on the way back: ${flow.found}`);
 });
 
 // -- what is shown of a turn
 
 const view = { field: "vorticity", block: 8, smooth: 1, span: 300, window: null };
-tried("means over time turn with the particles", () => {
+test("means over time turn with the particles", () => {
   const flow = flowOf(DISC);
   const watched = new Watched(flow), [u, v] = ["u", "v"].map((part) => () => watched.velocity.mean[part].map((value) => value || 0));
   for (let k = 0; k < 20; k++) (watched.advance(5), watched.frame(view, 5));
   const before = [u(), v(), watched.mean.parts[2].slice()];
   flow.turn();
   watched.frame(view, 0);
-  [u(), v(), watched.mean.parts[2]].forEach((after, k) => check("means over time turn with the particles", after.every((value, i) => value === -before[k][i])));
+  [u(), v(), watched.mean.parts[2]].forEach((after, k) => assert.ok(after.every((value, i) => value === -before[k][i]), "means over time turn with the particles"));
 });
-tried("a cone begins anew", () => {
+test("a cone begins anew", () => {
   const flow = flowOf();
   const watched = new Watched(flow), unlike = () => watched.differences(8, 8)?.reduce((sum, number, k) => sum + (k % 4 === 1 ? number : 0), 0);
   watched.flip(make, [60, 30]);
   watched.advance(20);
-  check("a cone grows", unlike() > 20, unlike());
+  assert.ok(unlike() > 20, `a cone grows: ${unlike()}`);
   watched.flip(make, [100, 30]);
-  check("a second particle has a cone of its own", unlike() === 1, unlike());
+  assert.equal(unlike(), 1, "a second particle has a cone of its own");
   [watched.twin] = [null, flow.turn()];
   watched.renew(make);
-  check("on the way back there is none, and it is said", watched.twin === null && flow.notes.at(-1)?.startsWith("On the way back"));
+  assert.ok(watched.twin === null && flow.notes.at(-1)?.startsWith("On the way back"), "on the way back there is none, and it is said");
   [watched.twin] = [null, flow.turn()];
   watched.renew(make);
-  check("it begins anew with one cell", unlike() === 1 && flow.notes.at(-1)?.includes("begins anew"), unlike());
+  assert.ok(unlike() === 1 && flow.notes.at(-1)?.includes("begins anew"), `it begins anew with one cell: ${unlike()}`);
 });
 
 // -- developed starts
@@ -195,53 +197,53 @@ function standing(name, fitting) {
     const flow = flowOf({ ...start, isDeveloped }), { columns, rows, numbers } = flow.sums(32, 36), { units: [, north] } = flow.gas;
     near("its filling", flow.totals()[1] / flow.totals()[0] / 7, filling, 0.001);
     near("its wind", flow.totals()[2] / 2 / flow.totals()[1], wind, 0.005);
-    check("its means are kept", flow.notes.length === 0, flow.notes);
+    assert.equal(flow.notes.length, 0, "its means are kept");
     const first = columns * Math.floor(rows / 2) + Math.ceil((width / 5 + radius) / 32), long = Math.min(40, Math.floor((columns * 3) / 5));
     return Array.from({ length: long }, (_, k) => 4 * (first + k)).map((at) => (numbers[at + 3] * north) / numbers[at + 1]);
   };
   const [vortices, even] = [behind(true), behind(false)].map((v) => [Math.min(...v), Math.max(...v)]), way = `${name}, ${fitting || "wide"}`;
-  check(`${way}: gas flows across behind it, to both sides`, vortices[0] < -0.1 && vortices[1] > 0.1, vortices);
-  check(`${way}: and does not in a fresh start`, even[0] > -0.07 && even[1] < 0.07, even);
+  assert.ok(vortices[0] < -0.1 && vortices[1] > 0.1, `${way}: gas flows across behind it, to both sides: ${vortices}`);
+  assert.ok(even[0] > -0.07 && even[1] < 0.07, `${way}: and does not in a fresh start: ${even}`);
 }
 for (const [name, fitting] of [["vortex street", ""], ["vortex street", "upright"], ["flow past a plate", ""], ["flow past a plate", "upright"], ["flow past a plate", "flat"]])
-  tried(`${name} stands at once`, () => standing(name, fitting));
-check("a start without means says so", flowOf({ ...DISC, isDeveloped: true }).notes.length === 1);
+  test(`${name} stands at once`, () => standing(name, fitting));
+test("a start without means says so", () => assert.equal(flowOf({ ...DISC, isDeveloped: true }).notes.length, 1));
 
 // -- messages
 
 const channel = [512, 255 * Math.sqrt(0.75)], text = spelled("Hi, Zoë <3 100!");
-check("a text is spelled in the font", text === "HI, ZOE ♥ 100!" && refusalOf(text, ...channel) === "", text);
-check("an address keeps a text", unsealed(sealed(text)) === text);
-check("which nobody reads there", ![text, "HI", "100"].some((part) => sealed(text).includes(part)));
+test("a text is spelled in the font", () => assert.ok(text === "HI, ZOE ♥ 100!" && refusalOf(text, ...channel) === "", text));
+test("an address keeps a text", () => assert.equal(unsealed(sealed(text)), text));
+test("which nobody reads there", () => assert.ok(![text, "HI", "100"].some((part) => sealed(text).includes(part))));
 const read = (isTurned) => {
   const flow = flowOf({ shape: "text", text: "L" });
-  check("a message is noise at generation 3,000", flow.generation === 3000);
+  assert.equal(flow.generation, 3000, "a message is noise at generation 3,000");
   const undo = isTurned && flipOne(flow, [60, 30]);
   if (isTurned > 1) undo();
   flow.turn();
   flow.advance(5000);
   return [flow.generation, flow.found];
 };
-tried("a message that comes back", () => {
-  check("it comes back, also if a turn was undone", [0, 2].every((isTurned) => String(read(isTurned)) === "0,0"));
+test("a message that comes back", () => {
+  assert.ok([0, 2].every((isTurned) => String(read(isTurned)) === "0,0"), "it comes back, also if a turn was undone");
   const [generation, found] = read(1);
-  check("with one particle turned first it does not", generation === 0 && found > 1000, found);
+  assert.ok(generation === 0 && found > 1000, `with one particle turned first it does not: ${found}`);
 });
-check("a broken text is none", [sealed(text).slice(0, -1), `${sealed(text)}A`, sealed(text).replace(/.$/, (sign) => (sign === "A" ? "B" : "A")), "", "AA", "HELLO"]
-  .every((letters) => unsealed(letters) === null));
+test("a broken text is none", () => assert.ok([sealed(text).slice(0, -1), `${sealed(text)}A`, sealed(text).replace(/.$/, (sign) => (sign === "A" ? "B" : "A")), "", "AA", "HELLO"]
+  .every((letters) => unsealed(letters) === null)));
 const [, most] = refusalOf("A".repeat(400), ...channel).match(/: (\d+) of them fit/).map(Number);
-check("a text that is too long is refused with the number that fits", ["A".repeat(most), "A".repeat(most + 1)].map((one) => refusalOf(one, ...channel) === "").join() === "true,false", most);
-check("a sign that the font does not have is refused", refusalOf("ж", ...channel).includes("ж"));
+test("a text that is too long is refused with the number that fits", () => assert.equal(["A".repeat(most), "A".repeat(most + 1)].map((one) => refusalOf(one, ...channel) === "").join(), "true,false"));
+test("a sign that the font does not have is refused", () => assert.ok(refusalOf("ж", ...channel).includes("ж")));
 const isIn = isInText("HELLO", 600, 300), places = Array.from({ length: 180_000 }, (_, at) => [at % 600, Math.floor(at / 600)]).filter((place) => isIn(...place));
-[["across", 0, 300], ["down", 1, 150]].forEach(([way, k, middle]) => {
+for (const [way, k, middle] of [["across", 0, 300], ["down", 1, 150]]) test(`a text is in the middle ${way}`, () => {
   const [low, high] = [Math.min, Math.max].map((of) => places.reduce((found, place) => of(found, place[k]), middle));
-  near(`a text is in the middle ${way}`, (low + high) / 2, middle, 2);
+  near("its middle", (low + high) / 2, middle, 2);
 });
-check("and fills a good part of it", places.length > 20_000 && places.length < 90_000, places.length);
+test("and fills a good part of it", () => assert.ok(places.length > 20_000 && places.length < 90_000));
 
 // -- undo
 
-tried("one history of all that was done", () => {
+test("one history of all that was done", () => {
   const experiment = Object.assign(new Experiment(), { make }), start = { ...FIRST, seed: "1" };
   experiment.start({ starts: [start], state: "" });
   const [{ flow }] = experiment.watched, kept = [], said = [];
@@ -250,21 +252,21 @@ tried("one history of all that was done", () => {
     () => experiment.flip([20, 20]), () => experiment.act("clear", cleared)];
   for (const act of acts) (kept.push(flow.cells.kept()), act());
   experiment.start({ starts: [{ ...start, seed: "2" }], state: "" });
-  check("a new start is another lattice", experiment.watched[0].flow !== flow);
+  assert.ok(experiment.watched[0].flow !== flow, "a new start is another lattice");
   said.push(experiment.past.at(-1).what);
   experiment.undo();
-  check("a start is undone", experiment.watched[0].flow === flow);
+  assert.equal(experiment.watched[0].flow, flow, "a start is undone");
   for (const cells of kept.reverse()) {
     said.push(experiment.past.at(-1).what);
     experiment.undo();
-    check(`${said.at(-1)} is undone to the last cell`, flow.cells.differing(cells) === 0, flow.cells.differing(cells));
+    assert.equal(flow.cells.differing(cells), 0, `${said.at(-1)} is undone to the last cell`);
   }
-  check("the last thing is undone first", said.join() === "start,clear,turn,burst,stroke" && !experiment.past.length, said);
+  assert.ok(said.join() === "start,clear,turn,burst,stroke" && !experiment.past.length, `the last thing is undone first: ${said}`);
   experiment.act("burst", (one) => dense(one, { at: [80, 30], radius: 6 }));
   flow.advance(1);
   const before = flow.cells.kept();
   experiment.undo();
-  check("a burst that has moved on stays, and it is said", flow.cells.differing(before) === 0 && flow.notes.at(-1).includes("moved on"), flow.notes.at(-1));
+  assert.ok(flow.cells.differing(before) === 0 && flow.notes.at(-1).includes("moved on"), `a burst that has moved on stays, and it is said: ${flow.notes.at(-1)}`);
 });
 
 // -- the drive
@@ -286,9 +288,9 @@ function profile(wind, generations) {
   const u = parabola.map((_, k) => east[k] / particles[k] + east[PARTS - 1 - k] / particles[PARTS - 1 - k]), mean = u.reduce((a, b) => a + b) / u.length;
   u.forEach((one, k) => near(`u over its mean at wind ${wind} in part ${k + 1} of 8 from the wall`, one / mean, parabola[k], 0.03));
 }
-for (const [wind, generations] of [[0.14, 40_000], [0.04, 300_000]]) tried(`a channel at wind ${wind}`, () => profile(wind, generations));
+for (const [wind, generations] of [[0.14, 40_000], [0.04, 300_000]]) test(`a channel at wind ${wind}`, () => profile(wind, generations));
 
-tried("Darcy's law", () => {
+test("Darcy's law", () => {
   const drags = [0.02, 0.04].map((wind) => ["1", "2", "3", "4"].reduce((sum, seed) => {
     const flow = flowOf({ width: 512, height: 256, filling: 0.3, wind, keep: true, shape: "porous", radius: 8, seed }), found = { force: 0, u: 0 };
     for (let g = 0; g < 5000; g += 1000) { // the drive's means are of the last 1,000 generations
@@ -297,7 +299,7 @@ tried("Darcy's law", () => {
     }
     return sum + found.force / found.u / 4;
   }, 0));
-  check("force over u at winds 0.02 and 0.04 differs by less than 8 per cent", Math.abs(drags[0] / drags[1] - 1) < 0.08, drags);
+  assert.ok(Math.abs(drags[0] / drags[1] - 1) < 0.08, `force over u at winds 0.02 and 0.04 differs by less than 8 per cent: ${drags}`);
 });
 
 const porous = { width: 256, height: 128, wind: 0.1, keep: true, shape: "porous", radius: 6, seed: "1" };
@@ -306,69 +308,69 @@ const atPace = (pace) => {
   for (let g = 0; g < 400; g += pace) flow.advance(pace);
   return [flow.drive.velocity, flow.drive.force];
 };
-tried("porous flow", () => {
+test("porous flow", () => {
   const forces = [1, 10, 200].map(atPace);
-  check("porous flow at paces 1, 10 and 200 has one force", forces.every((one) => String(one) === String(forces[0])) && forces[0][1] > 0.001, forces);
+  assert.ok(forces.every((one) => String(one) === String(forces[0])) && forces[0][1] > 0.001, `porous flow at paces 1, 10 and 200 has one force: ${forces}`);
 });
 
 // -- numbers
 
 const frameOf = (flow, generations = 1) => new Watched(flow).frame({ field: "speed", block: 8, smooth: 0, span: 1, window: null }, generations);
-tried("the wind after the way back", () => {
+test("the wind after the way back", () => {
   const flow = flowOf(porous), { u } = frameOf(flow, 0);
   flow.drive.keep(0.2);
   [0, 1].forEach((turn) => (turn && flow.turn(), flow.advance(300)));
-  check("back at the start u is that of its cells", flow.generation === 0 && flow.direction === 1 && frameOf(flow, 0).u === u, u);
+  assert.ok(flow.generation === 0 && flow.direction === 1 && frameOf(flow, 0).u === u, `back at the start u is that of its cells: ${u}`);
 });
-tried("the noise", () => {
+test("the noise", () => {
   const flow = flowOf({ gas: "fhp-rest", width: 1024, height: 288, filling: 0.18 });
   for (const [block, tall] of [[4, 5], [8, 9], [16, 18]]) {
     const watched = new Watched(flow), { noise } = watched.frame({ field: "speed", block, smooth: 0, span: 1, window: null }, 1);
     near(`the noise of blocks of ${block} columns`, noise / (Math.sqrt((3 * 0.18 * 0.82) / (block * tall)) / (7 * 0.18)), 1, 0.06);
   }
 });
-tried("the front", () => {
+test("the front", () => {
   const ring = { field: "density", columns: 100, rows: 100, width: 400, height: 400, apart: 1, block: 4, blockRows: 4, generation: 100, direction: 1 };
   const pixels = Uint8Array.from({ length: 10_000 }, (_, i) => 128 + 100 * Math.exp(-(((Math.hypot((i % 100) - 49.5, Math.floor(i / 100) - 49.5) * 4 - 80) / 15) ** 2)));
   near("the front of a drawn ring", frontOf({ ...ring, pixels }, 20), (80 + 15 * Math.sqrt(Math.LN2) - 20) / 100, 0.02);
-  check("another field has none", frontOf({ ...ring, pixels, field: "speed" }, 20) === null);
+  assert.equal(frontOf({ ...ring, pixels, field: "speed" }, 20), null, "another field has none");
   const watched = new Watched(flowOf({ width: 512, height: 256, shape: "sound", radius: 22 }));
   watched.advance(100);
   near("a burst's front runs as fast as sound", frontOf(watched.frame({ field: "density", block: 4, smooth: 2, span: 1, window: null }, 100), 22), Math.SQRT1_2, 0.06);
 });
-near("ν of fhp1, seeded", viscosity(GASES.fhp1.fluid, 0.3, "seeded"), 1 / (12 * 0.3 * 0.7 ** 3) - 1 / 8, 1e-12);
-near("ν of fhp1, left", viscosity(GASES.fhp1.fluid, 0.3, "left"), 1 / (16 * 0.3 * 0.7 ** 3) - 1 / 8, 1e-12);
-near("ν of fhp-rest", viscosity(GASES["fhp-rest"].fluid, 0.2, "seeded"), 1 / (28 * 0.2 * 0.8 ** 3 * (1 - 0.8 / 7)) - 1 / 8, 1e-12);
+isNear("ν of fhp1, seeded", viscosity(GASES.fhp1.fluid, 0.3, "seeded"), 1 / (12 * 0.3 * 0.7 ** 3) - 1 / 8, 1e-12);
+isNear("ν of fhp1, left", viscosity(GASES.fhp1.fluid, 0.3, "left"), 1 / (16 * 0.3 * 0.7 ** 3) - 1 / 8, 1e-12);
+isNear("ν of fhp-rest", viscosity(GASES["fhp-rest"].fluid, 0.2, "seeded"), 1 / (28 * 0.2 * 0.8 ** 3 * (1 - 0.8 / 7)) - 1 / 8, 1e-12);
 const street = { gas: "fhp-rest", directions: 7, fluid: 1000, particles: 1260, u: 0.299, v: 0, chirality: "seeded", fastest: 0.374 };
 const numbers = numbersOf(street, 160);
-near("g", numbers.g, 0.455, 0.0005);
-near("Reynolds", numbers.reynolds, 79, 0.5);
-near("Mach", numbers.mach, 0.46, 0.005);
-near("Mach of the fastest block", numbers.fastestMach, 0.57, 0.005);
-check("its warning", numbers.warnings.some((text) => text.startsWith("Mach 0.57")));
-near("Strouhal of the mean speed", strouhal(160, 2 * 2383, numbers.g, 0.299), 0.247, 0.001);
-near("Strouhal of the incoming speed", strouhal(160, 2 * 2383, numbers.g, 0.374), 0.198, 0.001);
+isNear("g", numbers.g, 0.455, 0.0005);
+isNear("Reynolds", numbers.reynolds, 79, 0.5);
+isNear("Mach", numbers.mach, 0.46, 0.005);
+isNear("Mach of the fastest block", numbers.fastestMach, 0.57, 0.005);
+test("its warning", () => assert.ok(numbers.warnings.some((text) => text.startsWith("Mach 0.57"))));
+isNear("Strouhal of the mean speed", strouhal(160, 2 * 2383, numbers.g, 0.299), 0.247, 0.001);
+isNear("Strouhal of the incoming speed", strouhal(160, 2 * 2383, numbers.g, 0.374), 0.198, 0.001);
 const FILLINGS = [0.1, 0.3, 0.7], code = `import json; from fhpgas.gas_table import GASES
 print(json.dumps({name: [number, gas.momenta, gas.units, gas.correlated, [gas.viscosity(d) for d in ${JSON.stringify(FILLINGS)} if gas.viscosity]]
     for number, (name, gas) in enumerate(GASES.items())}))`;
 const table = JSON.parse(spawnSync("python3", ["-c", code], { env: { ...process.env, PYTHONPATH: `${root}python` } }).stdout);
-check("the gases are the package's", String(Object.keys(GASES).sort()) === String(Object.keys(table).sort()), Object.keys(table));
-for (const [gas, { number, momenta, units, fluid }] of Object.entries(GASES)) {
+test("the gases are the package's", () => assert.equal(String(Object.keys(GASES).sort()), String(Object.keys(table).sort())));
+for (const [gas, { number, momenta, units, fluid }] of Object.entries(GASES)) test(`${gas} is the package's`, () => {
   const [viscosities, ...others] = table[gas].reverse(), own = [fluid?.correlated ?? {}, units, momenta, number];
-  check(`${gas} is the package's`, JSON.stringify(own) === JSON.stringify(others), others);
-  check(`${gas} is a fluid or none, as in the package`, viscosities.length === (fluid ? FILLINGS.length : 0));
-  viscosities.forEach((nu, i) => near(`ν of ${gas}, as the package has it`, viscosity(fluid, FILLINGS[i], "seeded"), nu, 1e-12));
-}
+  assert.equal(JSON.stringify(own), JSON.stringify(others));
+  assert.equal(viscosities.length, fluid ? FILLINGS.length : 0);
+  viscosities.forEach((nu, i) => near("ν", viscosity(fluid, FILLINGS[i], "seeded"), nu, 1e-12));
+});
 const thin = (gas, particles) => numbersOf({ ...street, gas, directions: 6, particles, u: 0.1, fastest: 0.1 }, 100).warnings.length;
-check("a thin fhp1 warns, a dense one does not", thin("fhp1", 600) === 1 && thin("fhp1", 1200) === 0);
-check("hpp has no Reynolds number", numbersOf({ ...street, gas: "hpp", directions: 4 }, 100).reynolds === undefined);
-tried("the program's sums of the same cells", () => {
+test("a thin fhp1 warns, a dense one does not", () => assert.ok(thin("fhp1", 600) === 1 && thin("fhp1", 1200) === 0));
+test("hpp has no Reynolds number", () => assert.equal(numbersOf({ ...street, gas: "hpp", directions: 4 }, 100).reynolds, undefined));
+test("the program's sums of the same cells", () => {
   const program = process.env.FHPGAS ?? `${root}fhpgas`, flow = flowOf({ ...DISC, chirality: "seeded" }), input = sceneOf(flow);
   const words = ["coarse", "--generations", "1", "--block-width", "256", "--block-height", "128"];
   const [fluid, particles, px, py] = spawnSync(program, words, { input }).stdout.toString().trim().split("\n")[1].trim().split(/ +/).slice(2).map(Number);
   flow.advance(1);
   const frame = frameOf(flow), kicks = Math.round((0.2 * particles - px / 2) / 2);
-  check("fluid and particles", frame.fluid === fluid && frame.particles === particles);
+  assert.ok(frame.fluid === fluid && frame.particles === particles, "fluid and particles");
   near("u before the turning", frame.u, px / 2 / particles, 1e-9);
   near("v", frame.v, (py * Math.sqrt(3)) / 2 / particles, 1e-9);
   near("the force", frame.force, (2 * kicks) / fluid, 1e-9);
@@ -379,7 +381,7 @@ tried("the program's sums of the same cells", () => {
 });
 
 // a flow that is one cell per generation ahead of a plate, and rests elsewhere
-tried("a flow ahead of a plate", () => {
+test("a flow ahead of a plate", () => {
   const flow = new Flow(make(GASES.fhp1, 256, 64), { chirality: "left", seed: "0", generation: 0 });
   const isAhead = (at) => at % 256 < 100, isPlate = (at) => at % 256 >= 100 && at % 256 < 104 && Math.abs(Math.floor(at / 256) - 32) < 8;
   flow.cells.fill(Uint8Array.from({ length: 256 * 64 }, (_, at) => (isPlate(at) ? SOLID : isAhead(at) ? 0x01 : 0x09)));
@@ -396,12 +398,12 @@ const wave = (period, noise, random) => Array.from({ length: 6000 }, (_, k) => {
   const v = Math.sin((2 * Math.PI * 10 * k) / period) + noise * (random.chance() + random.chance() + random.chance() - 1.5);
   return { generation: 10 * k, u: 0, v, incoming: 0.3 };
 });
-for (const period of [1000, 2500, 4766]) tried(`a wave of ${period} generations`, () => {
+for (const period of [1000, 2500, 4766]) test(`a wave of ${period} generations`, () => {
   const found = periodOf(wave(period, 1, lots(period)), period / 3);
-  check(`a wave of ${period} generations`, found && Math.abs(found.period / period - 1) < 0.02 && found.error < 0.05 * period, JSON.stringify(found));
-  check("its incoming speed", Math.abs((found?.incoming ?? 0) - 0.3) < 1e-9);
+  assert.ok(found && Math.abs(found.period / period - 1) < 0.02 && found.error < 0.05 * period, `a wave of ${period} generations: ${JSON.stringify(found)}`);
+  assert.ok(Math.abs((found?.incoming ?? 0) - 0.3) < 1e-9, "its incoming speed");
 });
-check("seven periods are too few", periodOf(wave(8000, 0, lots(1)), 2500) === null);
+test("seven periods are too few", () => assert.equal(periodOf(wave(8000, 0, lots(1)), 2500), null));
 
 // Noise with a memory shows a period in at most 1 % of runs, looked at every 1,000 of 40,000 generations.
 let shows = 0;
@@ -416,19 +418,16 @@ for (let run = 0; run < noises; run++) {
   }
   if (isShown) shows++;
 }
-check("noise shows no period", shows <= Math.max(0.01 * noises, 0), `${shows} of ${noises}`);
+test("noise shows no period", () => assert.ok(shows <= Math.max(0.01 * noises, 0), `${shows} of ${noises}`));
 
 // -- the built page
 
 const folder = mkdtempSync("/tmp/page-"), built = `${folder}/page.html`;
 const done = spawnSync("node", [`${root}page/build.mjs`, built], { encoding: "utf8" }), old = readFileSync(`${root}page/fhpgas.html`, "utf8");
-if (done.stderr.includes("this is not ")) console.log(`page/fhpgas.html is not compared with what its sources make: ${done.stderr}`);
-else check("page/fhpgas.html is what its sources make: run make page", done.status === 0 && old === readFileSync(built, "utf8"), done.stderr);
-check("page/fhpgas.html has at most 175 KB", Buffer.byteLength(old) <= 175_000, Buffer.byteLength(old));
+const isOther = done.stderr.includes("this is not ") && done.stderr, now = isOther || done.status ? done.stderr : readFileSync(built, "utf8");
+test("page/fhpgas.html is what its sources make: run make page", { skip: isOther }, () => assert.ok(old === now, done.stderr));
+test("page/fhpgas.html has at most 175 KB", () => assert.ok(Buffer.byteLength(old) <= 175_000));
 if (done.stderr.includes("stays as it was")) console.log(`its kernel was not built again: ${done.stderr}`);
 rmSync(folder, { recursive: true });
 const types = spawnSync("tsc", ["-p", `${root}page`], { encoding: "utf8" });
-if (types.error) console.log("the types of the page are left out, because tsc is missing: apt-get install node-typescript");
-else check("the types of the page", types.status === 0, types.stdout);
-
-end();
+test("the types of the page", { skip: types.error && "tsc is missing: apt-get install node-typescript" }, () => assert.equal(types.status, 0, types.stdout));

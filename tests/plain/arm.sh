@@ -22,7 +22,7 @@ mkdir "$room/plain"
 by_qemu "$room/plain/fhpgas" "$folder/fhpgas-linux-aarch64"
 export FHPGAS=$room/plain/fhpgas
 try 'the program says what it trusts' grep -q '(plain Rust, trusts the proofs of .*, not proved)' <("$FHPGAS" --version)
-part pytests tests/program/{command_line,cells_beside_c}.py
+try 'it prints what it must' pytests -n "$(nproc)" tests/program/{command_line,cells_beside_c}.py
 
 for machine in x86_64 aarch64; do
     try "a wheel is for $machine" python3 -m zipfile -e "$folder"/fhpgas-*-manylinux_*_$machine.whl "$room/$machine"
@@ -32,9 +32,9 @@ try 'and the notices' [ -s "$room/aarch64/fhpgas/licences/strsim/LICENSE" -a -s 
 cp "$room/aarch64/fhpgas/libfhpgas-aarch64.so" "$room/libfhpgas.so.3"
 $compiler -Wall -O -o "$room/calls" tests/plain/calls.c "$room/libfhpgas.so.3" || exit 1
 by_qemu "$room/far" -E "LD_LIBRARY_PATH=$room" "$room/calls"
-part tests/plain/calls.py "$room/far" "$room/x86_64/fhpgas/libfhpgas-x86-64-v2.so" 20 1500
+try 'its library has the calls of the one for x86-64' pytests tests/plain/calls.py -k libraries --libraries "$room/far" "$room/x86_64/fhpgas/libfhpgas-x86-64-v2.so"
 
 export CARGO_BUILD_TARGET=aarch64-unknown-linux-gnu LINKER=$compiler RUNNER=$emulator RUSTC=/usr/bin/rustc
 export CARGO_TARGET_AARCH64_UNKNOWN_LINUX_GNU_LINKER=$LINKER CARGO_TARGET_AARCH64_UNKNOWN_LINUX_GNU_RUNNER=$RUNNER
-part tests/plain/crates.sh
+try 'the tests of the crates pass' tests/plain/crates.sh
 tell

@@ -1,30 +1,26 @@
-#!/usr/bin/env python3
 """Compares two libraries of include/fhpgas.h call by call: random lawful and refused calls must return the same status and leave the same
-memory. Without words these are the plain library that looks at each index and the proved one that make left beside the package, with `page` the
-page's module and the proved one. For what this process cannot load PLAIN is a command that calls it (calls.c, tests/page/calls.mjs).
-
-    tests/plain/calls.py [page | PLAIN PROVED [SEED ROUNDS]]
-
-Ends with the counts."""
+memory. These are the plain library that looks at each index and the proved one that make left beside the package, the page's module and the
+proved one, or with `--libraries PLAIN PROVED` two others. For what this process cannot load PLAIN is a command that calls it (calls.c,
+tests/page/calls.mjs)."""
 
 import collections
 import itertools
+import pathlib
 import shlex
 import struct
 import subprocess
-import sys
-
-sys.path.append(f"{sys.path[0]}/../lib")
-import needs
 
 import engine_calls
+import needs
+import pytest
+
 import numpy as np
 
 EDGES = [1, 63, 64, 65, 127, 128, 129, 255, 256, 257, 4096]
 WIDTHS = [*range(1, 301), *EDGES * 27]
 ROUNDS = 1500
 CALLER = shlex.join(["node", f"{needs.ROOT}/tests/page/calls.mjs"])
-MODULES = [f"{CALLER} {name}" for name in ("page", "engine")]
+LIBRARIES = "out/checked/libfhpgas.so", "python/fhpgas/libfhpgas-x86-64-v2.so"
 # statuses that a call must be seen to return
 LEAST = {"advance": 7, "sums": 5, "pack": 4, "unpack": 3}
 GASES, SIDES = (*range(engine_calls.NONE + 1), 2**32 - 1), (0, *EDGES, 65536, 65537, 2**32 - 1)
@@ -82,35 +78,21 @@ def compare(names, seed, rounds):
     return +statuses
 
 
-def libraries():
-    plain = needs.ROOT / "out/checked/libfhpgas.so"
-    proved = sorted((needs.ROOT / "python/fhpgas").glob("libfhpgas-x86-64-v2.so"))
-    if not plain.exists():
-        needs.stop(f"{plain} is missing: run plain/build.sh out/checked checked first")
-    if not proved:
-        needs.leave_out("the proved library is missing, which make builds")
-    return [str(plain), *map(str, proved)]
+def test_libraries_have_equal_calls(request):
+    names = request.config.getoption("libraries") or [str(needs.ROOT / it) for it in LIBRARIES]
+    for name in names:
+        if name.endswith(".so") and not pathlib.Path(name).exists():
+            pytest.skip(f"{name} is missing, which make and plain/build.sh build")
+    returned_enough(names)
 
 
-def modules():
+def test_modules_have_equal_calls(tool):
+    tool("node")
     if not (needs.ROOT / "page/engine.js").exists():
-        needs.leave_out("page/engine.js is missing, which make builds")
-    return MODULES
+        pytest.skip("page/engine.js is missing, which make builds")
+    returned_enough([f"{CALLER} {name}" for name in ("page", "engine")])
 
 
-def main():
-    names = modules() if sys.argv[1:] == ["page"] else sys.argv[1:3] or libraries()
-    seed, rounds = map(int, sys.argv[3:5] or (20, ROUNDS))
-    try:
-        statuses = compare(names, seed, rounds)
-    except AssertionError as different:
-        return needs.tell_faults(1, [different])
-    for (name, status), number in sorted(statuses.items()):
-        print(f"{number:6} {name} returned {status}")
-    seen = collections.Counter(name for name, _ in statuses)
-    few = [name for name, least in LEAST.items() if seen[name] < least]
-    few = [f"{name} returned few statuses" for name in few]
-    return needs.tell_faults(statuses.total(), few)
-
-
-sys.exit(main())
+def returned_enough(names):
+    seen = collections.Counter(name for name, _ in compare(names, 20, ROUNDS))
+    assert not [name for name, least in LEAST.items() if seen[name] < least], seen

@@ -1,22 +1,21 @@
-#!/usr/bin/env python3
 """Shows in what a plain build differs from the proved one, as plain/README.md lists it: what it says of itself, memory that is refused, the
-forms of TOML, and the words of help and usage. Where the proved program is, it must do what is said of it. Ends with the counts."""
+forms of TOML, and the words of help and usage. Where the proved program is, it must do what is said of it."""
 
 import ctypes
 import os
+import re
 import signal
 import subprocess
-import tempfile
-import unittest
-import sys
 
-sys.path.append(f"{sys.path[0]}/../lib")
 import needs
+import pytest
 
+pytestmark = pytest.mark.usefixtures("checked")
 PLAIN = needs.ROOT / "out/checked/fhpgas"
 LIBRARY = needs.ROOT / "out/checked/libfhpgas.so"
 PROVED = needs.ROOT / "crates/fhpgas/out/fhpgas"
 BUILD = b"plain Rust, checked, not proved"
+KINDS = {"plain": PLAIN} | ({"proved": PROVED} if PROVED.exists() else {})
 MOST_REQUESTS = 400
 REQUESTS = [
     "check",
@@ -57,66 +56,49 @@ def ended(program, *words, **more):
     return done.returncode, done.stdout.decode(), done.stderr.decode()
 
 
-class Differences(unittest.TestCase):
-    def test_the_program_says_what_it_is(self):
-        done = run(PLAIN, "--version")
-        self.assertRegex(done.stdout, rb"^fhpgas [0-9.]+ \(" + BUILD + rb"\)\n$")
-
-    def test_the_library_says_what_it_is(self):
-        call = ctypes.CDLL(str(LIBRARY)).fhpgas_not_proved
-        call.restype = ctypes.c_char_p
-        self.assertEqual(call(), BUILD)
-
-    def test_memory_that_is_refused(self):
-        """A request that Rust's crates make aborts the program, which has printed nothing."""
-        with tempfile.TemporaryDirectory() as room:
-            refuse = f"{room}/refuse.so"
-            needs.compiled("tests/program/refusal/refuse.c", refuse, "-shared", "-fPIC", "-ldl")
-            for words in REQUESTS:
-                with self.subTest(words):
-                    self.refuse_from_each_on(refuse, words.split())
-
-    def refuse_from_each_on(self, refuse, words):
-        statuses = []
-        for number in range(1, MOST_REQUESTS):
-            done = run(PLAIN, *words, LD_PRELOAD=refuse, REFUSE_FROM=str(number))
-            statuses.append(done.returncode)
-            if done.returncode == 0:
-                break
-            self.assertEqual(done.stdout, b"", number)
-            self.assertIn(done.returncode, (3, -signal.SIGABRT), number)
-        self.assertEqual(statuses[-1], 0)
-        self.assertIn(3, statuses)
-        self.assertIn(-signal.SIGABRT, statuses)
-
-    def test_toml(self):
-        for name, (line, *wanted) in TOML.items():
-            for program, reason in zip((PLAIN, PROVED), wanted):
-                if program.exists():
-                    with self.subTest(name, program=program):
-                        found = ended(program, "check", text=f"{MAP}{line}\n")
-                        refused = 1, "", f"scene: {reason}\n"
-                        self.assertEqual(found, (0, READ, "") if reason == READ else refused)
-
-    def test_what_is_nested_very_deep(self):
-        """Rust's reader of TOML calls itself at each level, and leaves the stack."""
-        told = {PLAIN: (-signal.SIGSEGV, "", ""), PROVED: (1, "", "scene: not TOML\n")}
-        for program, wanted in told.items():
-            if program.exists():
-                with self.subTest(program=program):
-                    self.assertEqual(ended(program, "check", text="a = " + 10**6 * "["), wanted)
-
-    def test_texts_of_help_and_usage(self):
-        for words, *wanted in (line.split(" | ") for line in TEXTS.split("\n")):
-            for program, line in zip((PLAIN, PROVED), wanted):
-                if program.exists():
-                    with self.subTest(words, program=program):
-                        status, printed, told = ended(program, *words.split())
-                        self.assertEqual(status, 0 if words == "--help" else 2)
-                        self.assertIn(line, (printed + told).split("\n"))
+def test_the_program_says_what_it_is():
+    done = run(PLAIN, "--version")
+    assert re.search(rb"^fhpgas [0-9.]+ \(" + BUILD + rb"\)\n$", done.stdout)
 
 
-for path in PLAIN, LIBRARY:
-    if not path.exists():
-        needs.stop(f"{path} is missing: run plain/build.sh out/checked checked first")
-needs.run_tests()
+def test_the_library_says_what_it_is():
+    call = ctypes.CDLL(str(LIBRARY)).fhpgas_not_proved
+    call.restype = ctypes.c_char_p
+    assert call() == BUILD
+
+
+@pytest.mark.parametrize("words", REQUESTS)
+def test_memory_that_is_refused(compiled, words):
+    """A request that Rust's crates make aborts the program, which has printed nothing."""
+    refuse, statuses = compiled("refusal/refuse.c", "-shared", "-fPIC", "-ldl"), []
+    for number in range(1, MOST_REQUESTS):
+        done = run(PLAIN, *words.split(), LD_PRELOAD=str(refuse), REFUSE_FROM=str(number))
+        statuses.append(done.returncode)
+        if done.returncode == 0:
+            break
+        assert done.stdout == b"" and done.returncode in (3, -signal.SIGABRT), number
+    assert statuses[-1] == 0 and {3, -signal.SIGABRT} <= {*statuses}
+
+
+@pytest.mark.parametrize("kind", KINDS)
+@pytest.mark.parametrize("name", TOML)
+def test_toml(name, kind):
+    line, reason = TOML[name][0], TOML[name][1 + (kind == "proved")]
+    found = ended(KINDS[kind], "check", text=f"{MAP}{line}\n")
+    assert found == ((0, READ, "") if reason == READ else (1, "", f"scene: {reason}\n"))
+
+
+@pytest.mark.parametrize("kind", KINDS)
+def test_what_is_nested_very_deep(kind):
+    """Rust's reader of TOML calls itself at each level, and leaves the stack."""
+    told = {"plain": (-signal.SIGSEGV, "", ""), "proved": (1, "", "scene: not TOML\n")}
+    assert ended(KINDS[kind], "check", text="a = " + 10**6 * "[") == told[kind]
+
+
+@pytest.mark.parametrize("kind", KINDS)
+@pytest.mark.parametrize("line", TEXTS.split("\n"))
+def test_texts_of_help_and_usage(line, kind):
+    words, *wanted = line.split(" | ")
+    status, printed, told = ended(KINDS[kind], *words.split())
+    assert status == (0 if words == "--help" else 2)
+    assert wanted[kind == "proved"] in (printed + told).split("\n")

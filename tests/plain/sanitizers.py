@@ -1,7 +1,5 @@
-#!/usr/bin/env python3
 """Runs plain builds under sanitizers: the line's tests, the ring's and 60 random plans under ThreadSanitizer, and the same plans of the
-trusting build under AddressSanitizer. A ring with one order relaxed must be reported. If the compiler here has no sanitizers, they were not
-tried. Ends with the counts."""
+trusting build under AddressSanitizer. A ring with one order relaxed must be reported."""
 
 from __future__ import annotations
 
@@ -13,16 +11,15 @@ import re
 import shutil
 import subprocess
 import sys
-import tempfile
-import unittest
 from dataclasses import dataclass
 
-sys.path.append(f"{sys.path[0]}/../lib")
 import needs
+import pytest
 
 sys.path.append(str(needs.ROOT / "plain"))
 import workspace
 
+pytestmark = [pytest.mark.alone, pytest.mark.usefixtures("checked")]
 PLANS = 60
 OUT = needs.ROOT / "out/checked"
 PLAIN = OUT / "fhpgas"
@@ -63,8 +60,7 @@ class Build:
 
     def program(self, *profile: str) -> pathlib.Path:
         built = self.cargo("build", "--package=engine", "--bin=fhpgas", *profile)
-        if built.returncode != 0:
-            needs.stop(built.stderr)
+        assert built.returncode == 0, built.stderr
         return self.made / ("release" if profile else "debug") / "fhpgas"
 
 
@@ -82,7 +78,7 @@ def found_flags(sanitizer: str, folder: pathlib.Path, environment: dict[str, str
         made = run("rustc", *flags.split(), "empty.rs", cwd=folder, env=environment)
         if made.returncode == 0 and run(folder / "empty").returncode == 0:
             return flags
-    raise unittest.SkipTest(f"the {sanitizer} sanitizer, not tried because rustc has none here")
+    pytest.skip(f"rustc has no {sanitizer} sanitizer here")
 
 
 def sanitized(sanitizer: str, folder: pathlib.Path, proved: str | None = None) -> Build:
@@ -126,52 +122,51 @@ def plans() -> list[tuple[list[str], str]]:
     return drawn
 
 
-class Sanitized(unittest.TestCase):
-    def run_plans(self, build: Build, *profile: str) -> None:
-        program = build.program(*profile)
-        for words, scene in plans():
-            with self.subTest(words, scene=scene):
-                done = run(program, *words, input=scene, env=build.environment)
-                wanted = run(PLAIN, *words[:2], "--stages=1", input=scene)
-                self.assertNotRegex(done.stderr, r"(WARNING|ERROR): \w+Sanitizer")
-                self.assertEqual((done.returncode, done.stdout), (0, wanted.stdout))
-
-    def test_addresses(self) -> None:
-        self.run_plans(sanitized("address", OUT / "trusting", "these tests"), "--release")
-
-    def test_threads(self) -> None:
-        build = sanitized("thread", OUT / "workspace")
-        self.run_plans(build)
-        with self.subTest("the line's tests"):
-            one_thread = "--skip=two_to_the_26"  # a loop of minutes, in which nothing can race
-            named = "tests_belt", "tests_pipe", one_thread
-            done = build.cargo("test", "--package=checks", "--lib", "--no-fail-fast", "--", *named)
-            self.assertEqual(done.stdout.count("test result: ok."), 1, done.stderr)
-            self.assertEqual(races(done.stderr), [])
-        self.assertEqual(self.ring(build), [])
-        for order, end in itertools.product(ORDERS, ("PUSHES", "!PUSHES")):
-            with self.subTest(order, end=end):
-                self.assertTrue(self.ring(build, order, end))
-
-    def ring(self, build: Build, order: str = "", end: str = "") -> list[str]:
-        """The races in the tests of the ring, in which perhaps one order of one end is relaxed."""
-        room = pathlib.Path(self.enterContext(tempfile.TemporaryDirectory()))
-        for source in "tests/plain/ring.rs", "plain/shim/src/alloc.rs", "plain/shim/src/rtrb.rs":
-            text = (needs.ROOT / source).read_text()
-            if order and source.endswith("rtrb.rs"):
-                self.assertEqual(text.count(order), 1)
-                text = text.replace(order, f"if {end} {{ Ordering::Relaxed }} else {{ {order} }}")
-            (room / source).parent.mkdir(parents=True, exist_ok=True)
-            (room / source).write_text(text)
-        words = f"rustc --edition=2024 --test tests/plain/ring.rs {build.environment['RUSTFLAGS']}"
-        made = run(*words.split(), cwd=room, env=build.environment)
-        self.assertEqual(made.returncode, 0, made.stderr)
-        done = run(room / "ring", env=build.environment)
-        if not order:
-            self.assertIn("test result: ok.", done.stdout)
-        return races(done.stderr)
+def run_plans(build: Build, *profile: str) -> None:
+    program = build.program(*profile)
+    for words, scene in plans():
+        done = run(program, *words, input=scene, env=build.environment)
+        wanted = run(PLAIN, *words[:2], "--stages=1", input=scene)
+        assert not re.search(r"(WARNING|ERROR): \w+Sanitizer", done.stderr), (words, scene)
+        assert (done.returncode, done.stdout) == (0, wanted.stdout), (words, scene)
 
 
-if not PLAIN.exists():
-    needs.stop(f"{PLAIN} is missing: run plain/build.sh out/checked checked first")
-needs.run_tests()
+def test_addresses() -> None:
+    run_plans(sanitized("address", OUT / "trusting", "these tests"), "--release")
+
+
+@pytest.fixture(scope="module")
+def threads() -> Build:
+    return sanitized("thread", OUT / "workspace")
+
+
+def test_threads_of_plans(threads: Build) -> None:
+    run_plans(threads)
+
+
+def test_threads_of_the_lines_tests(threads: Build) -> None:
+    named = "tests_belt", "tests_pipe", "--skip=two_to_the_26"  # minutes in which nothing can race
+    done = threads.cargo("test", "--package=checks", "--lib", "--no-fail-fast", "--", *named)
+    assert done.stdout.count("test result: ok.") == 1, done.stderr
+    assert races(done.stderr) == []
+
+
+RELAXED = [("", ""), *itertools.product(ORDERS, ("PUSHES", "!PUSHES"))]
+
+
+@pytest.mark.parametrize("order, end", RELAXED)
+def test_threads_of_the_ring(threads: Build, tmp_path: pathlib.Path, order: str, end: str) -> None:
+    """The races in the tests of the ring, in which perhaps one order of one end is relaxed."""
+    for source in "tests/plain/ring.rs", "plain/shim/src/alloc.rs", "plain/shim/src/rtrb.rs":
+        text = (needs.ROOT / source).read_text()
+        if order and source.endswith("rtrb.rs"):
+            assert text.count(order) == 1
+            text = text.replace(order, f"if {end} {{ Ordering::Relaxed }} else {{ {order} }}")
+        (tmp_path / source).parent.mkdir(parents=True, exist_ok=True)
+        (tmp_path / source).write_text(text)
+    words = f"rustc --edition=2024 --test tests/plain/ring.rs {threads.environment['RUSTFLAGS']}"
+    made = run(*words.split(), cwd=tmp_path, env=threads.environment)
+    assert made.returncode == 0, made.stderr
+    done = run(tmp_path / "ring", env=threads.environment)
+    assert order or "test result: ok." in done.stdout
+    assert bool(races(done.stderr)) == bool(order)

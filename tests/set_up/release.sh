@@ -65,13 +65,13 @@ try 'it needs the C library alone' needs_libc
 
 try 'make lists there what it can do, and no error' lists
 try 'it has the definitions' grep -q '^## .gas_geom/specs/Fhp1.antt' "$folder/docs/DEFINITIONS.md"
-try 'the links of its documents lead to what is in it' "$python" -m pytest -q "$folder/tests/documents/links.py"
+try 'the links of its documents lead to what is in it' pytests "$folder/tests/documents/links.py"
 path=${python%/*}
 try 'the Python package finds the program' alone python3 -m fhpgas over-time scenes/wind.toml 2 1 > "$room/told"
 try 'it has an engine of its own' runs_inside
 if command -v wasm-opt > /dev/null; then try 'the page has the engine' cmp "$folder/page/engine.js" "$room/release/engine.js"; else leave_out "the page's engine"; fi
 try 'C has the header and an example' [ -s "$folder/include/fhpgas.h" -a -s "$folder/examples/profile.c" ]
-FHPGAS=$folder/fhpgas part tests/package/wheel.py "$folder"/fhpgas-*.whl
+FHPGAS=$folder/fhpgas try 'its wheel works' pytests tests/package/wheel.py -k for_linux --wheel "$folder"/fhpgas-*_2_34_x86_64.whl
 
 # What may be passed on: sources that cargo took without Python, and a program and a wheel of them, which trust the proofs.
 plain=$room/release/plain
@@ -79,11 +79,11 @@ tested() { awk -F '"' '/^name/ { name = $2 } /^version/ { version = $2 } /^sourc
 packed() { tar -tzf "$plain/fhpgas-$version-rust.tar.gz" | sed -n 's|^[^/]*/vendor/\([^/]*\)/.*|\1|p'; }
 try 'plain Rust has the crates that were tested, and no others' diff <(tested | sort) <(packed | sort -u)
 try 'its program says what it trusts' grep -q '(plain Rust, trusts the proofs of a draft of commit .*, not proved)' <("$plain/fhpgas-linux-x86_64" --version)
-FHPGAS=$plain/fhpgas-linux-x86_64 part pytests tests/program/command_line.py
+FHPGAS=$plain/fhpgas-linux-x86_64 try 'and prints what it must' pytests -n "$(nproc)" tests/program/command_line.py
 try 'and the crate for Rust' has_files "plain/fhpgas-$version.crate"
 try 'its wheel unpacks' "$python" -m zipfile -e "$plain"/fhpgas-*.whl "$room/plain"
 for level in v2 v3; do
-    part tests/plain/calls.py {"$room/plain",python}/fhpgas/libfhpgas-x86-64-$level.so 20 500
+    try "its library for $level has the calls of the proved one" pytests tests/plain/calls.py -k libraries --libraries {"$room/plain",python}/fhpgas/libfhpgas-x86-64-$level.so
 done
 try 'and has the notices' [ -s "$room/plain/fhpgas/licences/strsim/LICENSE" -a -s "$room/plain/fhpgas/licences/rust" ]
 
