@@ -16,7 +16,9 @@ program=crates/fhpgas/out/fhpgas built=python/fhpgas/libfhpgas-x86-64-v2.so
 [ -e crates.txt ] || program=./fhpgas # in an archive
 [ -e "$program" ] || program=out/plain/fhpgas # where nothing is proved
 [ -e "$built" ] || built=python/fhpgas/libfhpgas-$(uname -m).so
-for file in "$program" "$built"; do [ -e "$file" ] || { echo "$file is missing: make comes before make install" >&2; exit 1; }; done
+for file in "$program" "$built"; do
+    [ -e "$file" ] || { echo "$file is missing: make, or without the kit make plain, comes before make install" >&2; exit 1; }
+done
 install -D -t "$into/bin" "$program"
 install -D -m 644 -t "$into/include" include/fhpgas.h
 install -D -m 644 "$built" "$into/lib/$library"
