@@ -1,5 +1,5 @@
 -- The streaming of one direction of a row.
-use Rattle.std.specs.Prelude.{◌≡◌, ℕ, ◌+◌, ◌*◌, ◌<◌, ◌≤◌, max, Bool, false, not, IsTrue, if◌then◌else◌, List, slice_index}
+use Rattle.std.specs.Prelude.{◌≡◌, ℕ, ◌+◌, ◌*◌, ◌<◌, ◌≤◌, max, Bool, false, IsTrue, if◌then◌else◌, List, slice_index}
 use Rattle.gas_geom.specs.declared.moves.Move.{Move}
 use Rattle.gas_geom.specs.Moves.{column_after}
 use Rattle.gas_geom.specs.Gas.{holds}
@@ -19,10 +19,8 @@ abbrev pub AreStreamed : Incoming → Move → ℕ → List ℕ → Type 0
 AreStreamed q m j four =
     (l b : ℕ) → l < 4 → b < 64 → 64 * (j + l) + b < q.width → holds (slice_index four l) b ≡ streamed_cell q m (64 * (j + l) + b)
 
--- words j to j + 3 are four of a row, or all of a row of fewer, and its first words and its last ones or not, as is said
-pub record IsPlace (width j : ℕ) (starts ends : Bool) : Type 0 where
+-- words j to j + 3 are four of a row, or all of a row of fewer, and neither its first nor its last ones where that is said
+pub record IsPlace (width j : ℕ) (inner : Bool) : Type 0 where
   pub within : j + 4 ≤ max 4 (words_in width)
-  pub first : IsTrue starts → j ≡ 0
-  pub after_first : IsTrue (not starts) → 1 ≤ j
-  pub last : IsTrue ends → words_in width ≤ j + 4
-  pub before_last : IsTrue (not ends) → j + 4 < words_in width
+  pub after_first : IsTrue inner → 1 ≤ j
+  pub before_last : IsTrue inner → j + 4 < words_in width

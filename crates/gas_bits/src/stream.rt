@@ -20,9 +20,10 @@ fn few_at(words: &[u64]) -> u64x4
     requires { length words.now < 4 }
     ensures { (l : ℕ) → l < 4 → slice_index result l ≡ slice_index words.now l }
 {
-    let mut four = [0; 4];
-    four[..words.len()].copy_from_slice(words);
-    u64x4::from_array(four)
+    let one = words.first().copied().unwrap_or(0);
+    let two = words.get(1).copied().unwrap_or(0);
+    let three = words.get(2).copied().unwrap_or(0);
+    u64x4::from_array([one, two, three, 0])
 }
 
 // Words `j` to `j + 3` of a row that has them.
@@ -45,7 +46,7 @@ pub fn four_at(words: &[u64], n: usize, j: usize) -> u64x4
     if n < 4 {
         few_at(words)
     } else {
-        u64x4::from_slice(&words[j..j + 4])
+        four_of(words, j)
     }
 }
 
@@ -72,18 +73,17 @@ fn four_from_east(here: u64x4, after: u64x4) -> u64x4
 // The words before words `j` to `j + 3`. Before the first word stands the last one, with the row's
 // last bit on top.
 #[inline(always)]
-fn four_before(words: &[u64], here: u64x4, width: u32, j: usize, first: bool) -> u64x4
+fn four_before(words: &[u64], here: u64x4, width: u32, j: usize, inner: bool) -> u64x4
     requires some_cells { 1 ≤ width }
     requires few_cells { width ≤ 65536 }
     requires long { length words.now ≡ words_in width }
     requires within { j + 4 ≤ max 4 (words_in width) }
     requires here { (l : ℕ) → l < 4 → slice_index here l ≡ slice_index words.now (j + l) }
-    requires first { IsTrue first → j ≡ 0 }
-    requires after_first { IsTrue (not first) → 1 ≤ j }
+    requires inner { IsTrue inner → 1 ≤ j }
     ensures { (l : ℕ) → l < 4 → 64 * (j + l) < width → holds (slice_index result l) 63
         ≡ bit words.now (column_after width (64 * (j + l)) Back) }
 {
-    if !first {
+    if inner || j > 0 {
         return four_of(words, j - 1);
     }
     let n = words_for(width);
@@ -94,20 +94,19 @@ fn four_before(words: &[u64], here: u64x4, width: u32, j: usize, first: bool) ->
 
 // The eastern neighbours of the cells of words `j` to `j + 3`.
 #[inline(always)]
-fn east_of(words: &[u64], here: u64x4, width: u32, j: usize, last: bool) -> u64x4
+fn east_of(words: &[u64], here: u64x4, width: u32, j: usize, inner: bool) -> u64x4
     requires some_cells { 1 ≤ width }
     requires few_cells { width ≤ 65536 }
     requires long { length words.now ≡ words_in width }
     requires within { j + 4 ≤ max 4 (words_in width) }
     requires here { (l : ℕ) → l < 4 → slice_index here l ≡ slice_index words.now (j + l) }
-    requires last { IsTrue last → words_in width ≤ j + 4 }
-    requires before_last { IsTrue (not last) → j + 4 < words_in width }
+    requires inner { IsTrue inner → j + 4 < words_in width }
     ensures { AreFourBeside words.now width On j result }
 {
-    if !last {
+    let n = words_for(width);
+    if inner || j + 4 < n {
         return four_from_east(here, four_of(words, j + 1));
     }
-    let n = words_for(width);
     let [_, two, three, four] = here.to_array();
     let after = u64x4::from_array([two, three, four, 0]);
     let mut beside = four_from_east(here, after).to_array();
@@ -126,54 +125,22 @@ fn east_of_last(words: &[u64], width: u32) -> u64
     from_east(words[words.len() - 1], (width - 1) % 64, words[0])
 }
 
-/// The neighbours of the cells of words `j` to `j + 3` to which a move leads. `first` and `last` say whether
-/// they are the row's first and last words.
+// The neighbours of the cells of words `j` to `j + 3` to which a move leads. True for `inner` leaves out
+// what only the row's first and last words need.
 #[inline(always)]
-pub fn four_beside(
-    along: Move,
-    words: &[u64],
-    width: u32,
-    j: usize,
-    first: bool,
-    last: bool,
-) -> u64x4
+fn four_beside(along: Move, words: &[u64], width: u32, j: usize, inner: bool) -> u64x4
     requires some_cells { 1 ≤ width }
     requires few_cells { width ≤ 65536 }
     requires long { length words.now ≡ words_in width }
-    requires place { IsPlace width j first last }
+    requires place { IsPlace width j inner }
     ensures beside { (l b : ℕ) → l < 4 → b < 64 → 64 * (j + l) + b < width →
         holds (slice_index result l) b ≡ bit words.now (column_after width (64 * (j + l) + b) along) }
 {
     let here = four_at(words, words_for(width), j);
     match along {
-        Move::Back => four_from_west(four_before(words, here, width, j, first), here),
+        Move::Back => four_from_west(four_before(words, here, width, j, inner), here),
         Move::Stay => here,
-        Move::On => east_of(words, here, width, j, last),
-    }
-}
-
-/// The neighbours of the cells of words `j` to `j + 3` to which a move leads, where these are neither
-/// the row's first nor its last words. Shorter than `stream_four`, so that it is inlined where the move is
-/// a constant.
-#[inline(always)]
-pub fn inner_beside(along: Move, words: &[u64], width: u32, j: usize) -> u64x4
-    requires long { length words.now ≡ words_in width }
-    requires after_first { 1 ≤ j }
-    requires before_last { j + 4 < words_in width }
-    ensures beside { (l b : ℕ) → l < 4 → b < 64 → holds (slice_index result l) b
-        ≡ bit words.now (column_after width (64 * (j + l) + b) along) }
-{
-    let here = four_of(words, j);
-    match along {
-        Move::Back => {
-            let before = four_of(words, j - 1);
-            four_from_west(before, here)
-        }
-        Move::Stay => here,
-        Move::On => {
-            let after = four_of(words, j + 1);
-            four_from_east(here, after)
-        }
+        Move::On => east_of(words, here, width, j, inner),
     }
 }
 
@@ -190,24 +157,19 @@ fn bounce(arriving: u64x4, blocked: u64x4, opposite: u64x4, solid: u64x4) -> u64
 }
 
 /// Words `j` to `j + 3` of a direction after streaming. The move leads along the row to where the
-/// particles come from. `first` and `last` say whether they are the row's first and last words. Bits past the width are left open.
+/// particles come from. True for `inner` leaves out what only the row's first and last words need. Bits
+/// past the width are left open.
 #[inline(always)]
-pub fn stream_four<'a>(
-    along: Move,
-    incoming: &Incoming<'a>,
-    j: usize,
-    first: bool,
-    last: bool,
-) -> u64x4
-    requires place { IsPlace incoming.now.width j first last }
+pub fn stream_four<'a>(along: Move, incoming: &Incoming<'a>, j: usize, inner: bool) -> u64x4
+    requires place { IsPlace incoming.now.width j inner }
     ensures streamed { AreStreamed incoming.now along j result }
 {
-    let arriving = four_beside(along, incoming.plane, incoming.width, j, first, last);
+    let arriving = four_beside(along, incoming.plane, incoming.width, j, inner);
     if incoming.all_fluid {
         return arriving;
     }
     let n = words_for(incoming.width);
-    let blocked = four_beside(along, incoming.solid_there, incoming.width, j, first, last);
+    let blocked = four_beside(along, incoming.solid_there, incoming.width, j, inner);
     let opposite = four_at(incoming.opposite_here, n, j);
     bounce(
         arriving,

@@ -1,5 +1,5 @@
 -- A streamed cell, direction by direction, by the row that its particles come from.
-use Rattle.std.proofs.Common.{◌≡◌, ℕ, ◌+◌, ◌-◌, ◌*◌, ◌/◌, ◌%◌, ◌^◌, ◌<◌, ◌≤◌, subst, option_map, Bool, true, false, if◌then◌else◌, Option, Some, None, List, take, drop, length, get_or, ap, ◌∙◌, sym, arith, refl, inl, inr}
+use Rattle.std.proofs.Common.{◌≡◌, ℕ, ◌+◌, ◌-◌, ◌*◌, ◌/◌, ◌%◌, ◌^◌, ◌<◌, subst, option_map, Bool, true, false, if◌then◌else◌, Option, Some, None, List, take, drop, length, get_or, ap, ◌∙◌, sym, arith, refl, inl, inr}
 use Rattle.std.specs.Option.{option_map_or}
 use Rattle.std.proofs.lemmas.Bool.{cases_lt}
 use Rattle.std.proofs.lemmas.Bool.Decides.{nat_tests}
@@ -14,17 +14,15 @@ use Rattle.gas_geom.specs.Lattice.{arriving, streamed, set_of}
 use Rattle.gas_geom.proofs.Arriving.{arrives_from}
 use Rattle.gas_geom.proofs.Holds.{set_of-lt, holds-set_of, holds-zero}
 use Rattle.gas_bits.specs.Words.{words_in, bit}
-use Rattle.gas_bits.specs.Planes.{has, state}
+use Rattle.gas_bits.specs.Planes.{has}
 use Rattle.gas_bits.proofs.Cells.{part_get, whole_plane}
 use Rattle.gas_bits.proofs.Fours.{each_lane}
 use Rattle.gas_bits.proofs.ShiftedBits.{streamed_bit}
 use Rattle.gas_rows.specs.Beside.{is_solid_beside}
 use Rattle.gas_rows.specs.Planes.{cells_of}
 use Rattle.gas_rows.specs.Streaming.{AreRowsAbout, IsRowAt, AreWordsAbout}
-use Rattle.gas_rows.specs.declared.stream.Kernel.{Kernel}
 use Rattle.gas_rows.specs.declared.stream.Neighbourhood.{Neighbourhood}
 use Rattle.gas_rows.specs.Inner.Beside.{row_beside}
-use Rattle.gas_rows.specs.Inner.Streaming.{advanced_state, AreAdvanced}
 use Rattle.gas_rows.proofs.Cells.{holds-cells}
 
 -- what a streamed cell holds
@@ -130,17 +128,3 @@ each_of_eight P p0 p1 p2 p3 p4 p5 p6 p7 i h = elim (cases_lt i 4) [
   | inl low ↦ each_lane P p0 p1 p2 p3 i low
   | inr high ↦ subst P (let e : 4 + (i - 4) ≡ i = omega (arith, high) in e) (each_lane (λ k. P (4 + k)) p4 p5 p6 p7 (i - 4) (omega (arith, h, high)))
 ]
-
--- ---- all words
-pub all_advanced : (gas : Rules) (c : ChannelModel) (at : ℕ → ℕ → ℕ) (n : Neighbourhood) (k : Kernel) (to : ℕ) (old new chi : List ℕ) (collides : Bool)
-    → k.rows ≡ n → k.chi.now ≡ chi → k.collides ≡ collides → AreWordsAbout gas.dirs c at n → words_in n.width ≤ to
-    → (AreWordsAbout gas.dirs c at k.rows → AreAdvanced gas c at k 0 to old new)
-    → (x : ℕ) → x < c.width → state new (words_in n.width) gas.dirs x ≡ advanced_state gas collides (streamed gas c at x n.y) (bit chi x)
-all_advanced gas c at n k to old new chi collides er ec eb about all advanced x lt =
-    let here = advanced (subst (λ (m : Neighbourhood). AreWordsAbout gas.dirs c at m) (sym er) about) x lt in
-    let inside : x < 64 * to = omega (arith, lt, all, about.wide) in
-    sym (ap (λ (m : Neighbourhood). state new (words_in m.width) gas.dirs x) er)
-    ∙ (let e : state new (words_in k.rows.width) gas.dirs x ≡ advanced_state gas k.collides (streamed gas c at x k.rows.y) (bit k.chi.now x) = grind (arith, nat_tests) in e)
-    ∙ ap (λ (m : Neighbourhood). advanced_state gas k.collides (streamed gas c at x m.y) (bit k.chi.now x)) er
-    ∙ ap (λ (ws : List ℕ). advanced_state gas k.collides (streamed gas c at x n.y) (bit ws x)) ec
-    ∙ ap (λ (b : Bool). advanced_state gas b (streamed gas c at x n.y) (bit chi x)) eb

@@ -9,7 +9,7 @@ ghost use Rattle.gas_rows.specs.Inner.Beside.{row_beside};
 use crate::collision::directions;
 use gas_bits::plane::Incoming;
 use gas_bits::planes::{clear_planes_past, write_four_at};
-use gas_bits::stream::{four_at, four_beside, inner_beside, stream_four};
+use gas_bits::stream::{four_at, stream_four};
 use gas_bits::word::words_for;
 use gas_geom::gas::Gas;
 use gas_geom::moves::{Move, moves};
@@ -65,35 +65,31 @@ fn plane(words: &[u64], dirs: usize, i: u32, words_each: usize) -> &[u64]
     &words[start..start + words_each]
 }
 
-// What is the same for all words of a row. The truth values are constants where they are used, so that a
-// compiler leaves out what is not asked for and knows the moves.
+// What is the same for all words of a row.
 #[derive(Clone, Copy)]
 struct Kernel<'a, 'b> {
     rows: Neighbourhood<'a>,
     // The random bits of the collision that follows, if one does.
     chi: &'b [u64],
     collides: bool,
-    odd: bool,
-    all_fluid: bool,
     ghost chi_long: { IsTrue collides → length chi.now ≡ words_in rows.width },
-    ghost odd_is: { odd ≡ (rows.y % 2 == 1) },
-    ghost fluid_is: { IsTrue all_fluid → IsTrue rows.all_fluid },
 }
 
+// A compiler puts a function with one caller into it however long it is, and then knows there what the caller
+// knows. So there is a `COPY` of each long function for each arm of `advance`.
 impl<'a, 'b> Kernel<'a, 'b> {
     ghost use Rattle.gas_geom.specs.Channel.{ChannelModel};
     ghost use Rattle.gas_geom.specs.Lattice.{streamed};
     ghost use Rattle.gas_geom.specs.Gas.{holds};
-    ghost use Rattle.gas_bits.specs.Planes.{four_has};
+    ghost use Rattle.gas_bits.specs.Planes.{four_has, state};
     ghost use Rattle.gas_rows.specs.Streaming.{AreWordsAbout, AreRowsLong};
-    ghost use Rattle.gas_rows.specs.Inner.Streaming.{AreAdvanced};
+    ghost use Rattle.gas_rows.specs.Inner.Streaming.{advanced_state, AreAdvanced, AreEndsAdvanced};
 
     // Words `j` to `j + 3` of direction `i` after streaming, and zeros if the gas has no such direction.
-    // `first` and `last` say whether they are the row's first and last words.
     #[inline(always)]
-    fn stream_four<G: Gas>(&self, i: u32, j: usize, first: bool, last: bool) -> u64x4
+    fn stream_four<G: Gas>(&self, i: u32, j: usize, inner: bool) -> u64x4
         requires rows { AreRowsLong G.rules.dirs self.now.rows }
-        requires place { IsPlace self.now.rows.width j first last }
+        requires place { IsPlace self.now.rows.width j inner }
         ensures { (channel : ChannelModel) (at : ℕ → ℕ → ℕ) →
             AreWordsAbout G.rules.dirs channel at self.now.rows → i < G.rules.dirs → (c : ℕ) → c < 256 →
             64 * j + c < channel.width → holds (slice_index result (c / 64)) (c % 64)
@@ -106,7 +102,7 @@ impl<'a, 'b> Kernel<'a, 'b> {
         let dirs = directions::<G>();
         let words_each = words_for(rows.width);
         let opposite = G::opposite(i);
-        let (along, down) = moves::<G>(opposite, self.odd);
+        let (along, down) = moves::<G>(opposite, rows.y % 2 == 1);
         let from = row_beside(down, rows.above, rows.middle, rows.below);
         let solid_there = row_beside(down, rows.solid_above, rows.solid_middle, rows.solid_below);
         let coming = plane(from, dirs, i, words_each);
@@ -117,16 +113,16 @@ impl<'a, 'b> Kernel<'a, 'b> {
             opposite_here,
             solid_here: rows.solid_middle,
             width: rows.width,
-            all_fluid: self.all_fluid,
+            all_fluid: rows.all_fluid,
         };
-        stream_four(along, &incoming, j, first, last)
+        stream_four(along, &incoming, j, inner)
     }
 
     // Words `j` to `j + 3` of each direction after streaming.
     #[inline(always)]
-    fn stream_planes<G: Gas>(&self, j: usize, first: bool, last: bool) -> [u64x4; 8]
+    fn stream_planes<G: Gas, const COPY: u8, const INNER: bool>(&self, j: usize) -> [u64x4; 8]
         requires rows { AreRowsLong G.rules.dirs self.now.rows }
-        requires place { IsPlace self.now.rows.width j first last }
+        requires place { IsPlace self.now.rows.width j INNER }
         ensures { (channel : ChannelModel) (at : ℕ → ℕ → ℕ) →
             AreWordsAbout G.rules.dirs channel at self.now.rows → (i c : ℕ) → i < G.rules.dirs → c < 256 →
             64 * j + c < channel.width → four_has result i c
@@ -134,126 +130,26 @@ impl<'a, 'b> Kernel<'a, 'b> {
     {
         // Written out: with a constant direction a compiler knows its step.
         [
-            self.stream_four::<G>(0, j, first, last),
-            self.stream_four::<G>(1, j, first, last),
-            self.stream_four::<G>(2, j, first, last),
-            self.stream_four::<G>(3, j, first, last),
-            self.stream_four::<G>(4, j, first, last),
-            self.stream_four::<G>(5, j, first, last),
-            self.stream_four::<G>(6, j, first, last),
-            self.stream_four::<G>(7, j, first, last),
-        ]
-    }
-
-    // Words `j` to `j + 3` of direction `i` after streaming where no cell is solid, and zeros if the gas has
-    // no such direction. They are neither the row's first nor its last words. Short, so that it is inlined
-    // and the moves are constants.
-    #[inline(always)]
-    fn inner_four<G: Gas>(&self, i: u32, j: usize, odd: bool) -> u64x4
-        requires rows { AreRowsLong G.rules.dirs self.now.rows }
-        requires fluid { IsTrue self.now.all_fluid }
-        requires odd { odd ≡ self.now.odd }
-        requires after_first { 1 ≤ j }
-        requires before_last { j + 4 < words_in self.now.rows.width }
-        ensures { (channel : ChannelModel) (at : ℕ → ℕ → ℕ) →
-            AreWordsAbout G.rules.dirs channel at self.now.rows → i < G.rules.dirs → (c : ℕ) → c < 256 →
-            64 * j + c < channel.width → holds (slice_index result (c / 64)) (c % 64)
-            ≡ holds (streamed G.rules channel at (64 * j + c) self.now.rows.y) i }
-    {
-        if i >= G::DIRS {
-            return u64x4::splat(0);
-        }
-        let (along, down) = moves::<G>(G::opposite(i), odd);
-        let from = row_beside(down, self.rows.above, self.rows.middle, self.rows.below);
-        let coming = plane(from, directions::<G>(), i, words_for(self.rows.width));
-        inner_beside(along, coming, self.rows.width, j)
-    }
-
-    // Words `j` to `j + 3` of each direction after streaming, as above.
-    #[inline(always)]
-    fn inner_planes<G: Gas>(&self, j: usize, odd: bool) -> [u64x4; 8]
-        requires rows { AreRowsLong G.rules.dirs self.now.rows }
-        requires fluid { IsTrue self.now.all_fluid }
-        requires odd { odd ≡ self.now.odd }
-        requires after_first { 1 ≤ j }
-        requires before_last { j + 4 < words_in self.now.rows.width }
-        ensures { (channel : ChannelModel) (at : ℕ → ℕ → ℕ) →
-            AreWordsAbout G.rules.dirs channel at self.now.rows → (i c : ℕ) → i < G.rules.dirs → c < 256 →
-            64 * j + c < channel.width → four_has result i c
-            ≡ holds (streamed G.rules channel at (64 * j + c) self.now.rows.y) i }
-    {
-        [
-            self.inner_four::<G>(0, j, odd),
-            self.inner_four::<G>(1, j, odd),
-            self.inner_four::<G>(2, j, odd),
-            self.inner_four::<G>(3, j, odd),
-            self.inner_four::<G>(4, j, odd),
-            self.inner_four::<G>(5, j, odd),
-            self.inner_four::<G>(6, j, odd),
-            self.inner_four::<G>(7, j, odd),
-        ]
-    }
-
-    // Words `j` to `j + 3` of direction `i` after streaming where no cell is solid, and zeros if the gas has
-    // no such direction. `first` and `last` say whether they are the row's first and last words.
-    #[inline(always)]
-    fn fluid_four<G: Gas>(&self, i: u32, j: usize, odd: bool, first: bool, last: bool) -> u64x4
-        requires rows { AreRowsLong G.rules.dirs self.now.rows }
-        requires fluid { IsTrue self.now.all_fluid }
-        requires odd { odd ≡ self.now.odd }
-        requires place { IsPlace self.now.rows.width j first last }
-        ensures { (channel : ChannelModel) (at : ℕ → ℕ → ℕ) →
-            AreWordsAbout G.rules.dirs channel at self.now.rows → i < G.rules.dirs → (c : ℕ) → c < 256 →
-            64 * j + c < channel.width → holds (slice_index result (c / 64)) (c % 64)
-            ≡ holds (streamed G.rules channel at (64 * j + c) self.now.rows.y) i }
-    {
-        if i >= G::DIRS {
-            return u64x4::splat(0);
-        }
-        let (along, down) = moves::<G>(G::opposite(i), odd);
-        let from = row_beside(down, self.rows.above, self.rows.middle, self.rows.below);
-        let coming = plane(from, directions::<G>(), i, words_for(self.rows.width));
-        four_beside(along, coming, self.rows.width, j, first, last)
-    }
-
-    // Words `j` to `j + 3` of each direction after streaming, as above. Constants in place
-    // of arguments, since this is too long to be inlined into each caller, and has one for each of them.
-    #[inline(always)]
-    fn fluid_planes<G: Gas, const ODD: bool, const FIRST: bool, const LAST: bool>(
-        &self,
-        j: usize,
-    ) -> [u64x4; 8]
-        requires rows { AreRowsLong G.rules.dirs self.now.rows }
-        requires fluid { IsTrue self.now.all_fluid }
-        requires odd { ODD ≡ self.now.odd }
-        requires place { IsPlace self.now.rows.width j FIRST LAST }
-        ensures { (channel : ChannelModel) (at : ℕ → ℕ → ℕ) →
-            AreWordsAbout G.rules.dirs channel at self.now.rows → (i c : ℕ) → i < G.rules.dirs → c < 256 →
-            64 * j + c < channel.width → four_has result i c
-            ≡ holds (streamed G.rules channel at (64 * j + c) self.now.rows.y) i }
-    {
-        [
-            self.fluid_four::<G>(0, j, ODD, FIRST, LAST),
-            self.fluid_four::<G>(1, j, ODD, FIRST, LAST),
-            self.fluid_four::<G>(2, j, ODD, FIRST, LAST),
-            self.fluid_four::<G>(3, j, ODD, FIRST, LAST),
-            self.fluid_four::<G>(4, j, ODD, FIRST, LAST),
-            self.fluid_four::<G>(5, j, ODD, FIRST, LAST),
-            self.fluid_four::<G>(6, j, ODD, FIRST, LAST),
-            self.fluid_four::<G>(7, j, ODD, FIRST, LAST),
+            self.stream_four::<G>(0, j, INNER),
+            self.stream_four::<G>(1, j, INNER),
+            self.stream_four::<G>(2, j, INNER),
+            self.stream_four::<G>(3, j, INNER),
+            self.stream_four::<G>(4, j, INNER),
+            self.stream_four::<G>(5, j, INNER),
+            self.stream_four::<G>(6, j, INNER),
+            self.stream_four::<G>(7, j, INNER),
         ]
     }
 
     // Writes words `j` to `j + 3` of each direction, which arrived there, after the collision that follows
-    // if it `collides`. Bits past the width are left open.
+    // if one does. Bits past the width are left open.
     #[inline(always)]
-    fn put_four<G: Gas>(&self, j: usize, arrived: [u64x4; 8], collides: bool, out: &mut [u64])
+    fn put_four<G: Gas>(&self, j: usize, arrived: [u64x4; 8], out: &mut [u64])
         requires within { j + 4 ≤ max 4 (words_in self.now.rows.width) }
         requires arrived { (channel : ChannelModel) (at : ℕ → ℕ → ℕ) →
             AreWordsAbout G.rules.dirs channel at self.now.rows → (i c : ℕ) → i < G.rules.dirs → c < 256 →
             64 * j + c < channel.width → four_has arrived i c
             ≡ holds (streamed G.rules channel at (64 * j + c) self.now.rows.y) i }
-        requires collides { collides ≡ self.now.collides }
         requires long { length out.old ≡ G.rules.dirs * words_in self.now.rows.width }
         ensures long { length out.new ≡ length out.old }
         ensures advanced { (channel : ChannelModel) (at : ℕ → ℕ → ℕ) →
@@ -262,7 +158,7 @@ impl<'a, 'b> Kernel<'a, 'b> {
     {
         let dirs = directions::<G>();
         let words_each = words_for(self.rows.width);
-        let planes = if collides {
+        let planes = if self.collides {
             G::collide_planes(arrived, four_at(self.chi, words_each, j))
         } else {
             arrived
@@ -270,163 +166,73 @@ impl<'a, 'b> Kernel<'a, 'b> {
         write_four_at(out, words_each, dirs, j, planes, u64x4::splat(0));
     }
 
-    // Writes words `j` to `j + 3` of each direction after streaming and, if it `collides`, the collision
-    // that follows. Bits past the width are left open.
+    // Writes words `j` to `j + 3` of each direction after streaming and, if one follows, the collision. Bits
+    // past the width are left open.
     #[inline(always)]
-    fn write_four<G: Gas>(&self, j: usize, first: bool, last: bool, collides: bool, out: &mut [u64])
+    fn write_four<G: Gas, const COPY: u8, const INNER: bool>(&self, j: usize, out: &mut [u64])
         requires rows { AreRowsLong G.rules.dirs self.now.rows }
-        requires place { IsPlace self.now.rows.width j first last }
-        requires collides { collides ≡ self.now.collides }
+        requires place { IsPlace self.now.rows.width j INNER }
         requires long { length out.old ≡ G.rules.dirs * words_in self.now.rows.width }
         ensures long { length out.new ≡ length out.old }
         ensures advanced { (channel : ChannelModel) (at : ℕ → ℕ → ℕ) →
             AreWordsAbout G.rules.dirs channel at self.now.rows →
             AreAdvanced G.rules channel at self.now j (j + 4) out.old out.new }
     {
-        let arrived = self.stream_planes::<G>(j, first, last);
-        self.put_four::<G>(j, arrived, collides, out);
+        let arrived = self.stream_planes::<G, COPY, INNER>(j);
+        self.put_four::<G>(j, arrived, out);
     }
 
-    // Writes the words of a row but the first and the last four, where no cell is solid.
+    // Writes the first and the last four words of a row, which may overlap, since the row written is never
+    // read for them.
     #[inline(always)]
-    fn write_fours<G: Gas>(&self, odd: bool, collides: bool, out: &mut [u64])
+    fn write_ends<G: Gas, const COPY: u8>(&self, out: &mut [u64])
         requires rows { AreRowsLong G.rules.dirs self.now.rows }
-        requires fluid { IsTrue self.now.all_fluid }
-        requires odd { odd ≡ self.now.odd }
-        requires many { 4 ≤ words_in self.now.rows.width }
-        requires collides { collides ≡ self.now.collides }
         requires long { length out.old ≡ G.rules.dirs * words_in self.now.rows.width }
         ensures long { length out.new ≡ length out.old }
         ensures advanced { (channel : ChannelModel) (at : ℕ → ℕ → ℕ) →
             AreWordsAbout G.rules.dirs channel at self.now.rows →
-            AreAdvanced G.rules channel at self.now 4 (4 * ((words_in self.now.rows.width - 1) / 4)) out.old out.new }
+            AreEndsAdvanced G.rules channel at self.now 2 out.old out.new }
     {
-        for k in 1..(words_for(self.rows.width) - 1) / 4 {
-            let arrived = self.inner_planes::<G>(4 * k, odd);
-            self.put_four::<G>(4 * k, arrived, collides, out);
+        let last = words_for(self.rows.width).saturating_sub(4);
+        let ends = if last == 0 { 1_usize } else { 2 };
+        for k in 0..ends {
+            let j = if k == 0 { 0 } else { last };
+            self.write_four::<G, COPY, false>(j, out);
         }
     }
 
-    // The same with constants for the parity and the collision, by a loop for each of them.
-    #[inline(never)]
-    fn write_middle<G: Gas>(&self, out: &mut [u64])
-        requires rows { AreRowsLong G.rules.dirs self.now.rows }
-        requires fluid { IsTrue self.now.all_fluid }
-        requires many { 4 ≤ words_in self.now.rows.width }
-        requires long { length out.old ≡ G.rules.dirs * words_in self.now.rows.width }
-        ensures long { length out.new ≡ length out.old }
-        ensures advanced { (channel : ChannelModel) (at : ℕ → ℕ → ℕ) →
-            AreWordsAbout G.rules.dirs channel at self.now.rows →
-            AreAdvanced G.rules channel at self.now 4 (4 * ((words_in self.now.rows.width - 1) / 4)) out.old out.new }
-    {
-        let kernel = *self;
-        // Never so, but a compiler then leaves out what only a shorter row needs.
-        if words_for(kernel.rows.width) < 4 {
-            return;
-        }
-        match (kernel.odd, kernel.collides) {
-            (true, true) => kernel.write_fours::<G>(true, true, out),
-            (true, false) => kernel.write_fours::<G>(true, false, out),
-            (false, true) => kernel.write_fours::<G>(false, true, out),
-            (false, false) => kernel.write_fours::<G>(false, false, out),
-        }
-    }
-
-    // Writes words `j` to `j + 3` of each direction where no cell is solid.
-    #[inline(never)]
-    fn write_end<G: Gas, const ODD: bool, const FIRST: bool, const LAST: bool>(
-        &self,
-        j: usize,
-        out: &mut [u64],
-    )
-        requires rows { AreRowsLong G.rules.dirs self.now.rows }
-        requires fluid { IsTrue self.now.all_fluid }
-        requires odd { ODD ≡ self.now.odd }
-        requires many { 4 ≤ words_in self.now.rows.width }
-        requires place { IsPlace self.now.rows.width j FIRST LAST }
-        requires long { length out.old ≡ G.rules.dirs * words_in self.now.rows.width }
-        ensures long { length out.new ≡ length out.old }
-        ensures advanced { (channel : ChannelModel) (at : ℕ → ℕ → ℕ) →
-            AreWordsAbout G.rules.dirs channel at self.now.rows →
-            AreAdvanced G.rules channel at self.now j (j + 4) out.old out.new }
-    {
-        let kernel = *self;
-        // Never so, but a compiler then leaves out what only a shorter row needs.
-        if words_for(kernel.rows.width) < 4 {
-            return;
-        }
-        let arrived = kernel.fluid_planes::<G, ODD, FIRST, LAST>(j);
-        kernel.put_four::<G>(j, arrived, kernel.collides, out);
-    }
-
-    // Writes all words of a row of at least four words of each direction, where no cell is solid. The last four lie over those
-    // before them, which the row written never is read for.
+    // Writes the words of a row but the first and the last four.
     #[inline(always)]
-    fn write_row<G: Gas, const ODD: bool>(&self, out: &mut [u64])
+    fn write_middle<G: Gas, const COPY: u8>(&self, out: &mut [u64])
         requires rows { AreRowsLong G.rules.dirs self.now.rows }
-        requires fluid { IsTrue self.now.all_fluid }
-        requires odd { ODD ≡ self.now.odd }
-        requires many { 4 ≤ words_in self.now.rows.width }
         requires long { length out.old ≡ G.rules.dirs * words_in self.now.rows.width }
         ensures long { length out.new ≡ length out.old }
         ensures advanced { (channel : ChannelModel) (at : ℕ → ℕ → ℕ) →
             AreWordsAbout G.rules.dirs channel at self.now.rows →
-            AreAdvanced G.rules channel at self.now 0 (words_in self.now.rows.width) out.old out.new }
+            AreAdvanced G.rules channel at self.now 4 (4 * max 1 ((words_in self.now.rows.width - 1) / 4)) out.old out.new }
     {
         let words_each = words_for(self.rows.width);
-        if words_each == 4 {
-            self.write_end::<G, ODD, true, true>(0, out);
-        } else {
-            self.write_end::<G, ODD, true, false>(0, out);
-            self.write_middle::<G>(out);
-            self.write_end::<G, ODD, false, true>(words_each - 4, out);
+        if words_each <= 8 {
+            return;
+        }
+        for k in 1..(words_each - 1) / 4 {
+            self.write_four::<G, COPY, true>(4 * k, out);
         }
     }
 
-    // The same by one body for all words, which is shorter.
+    // Writes all words of a row.
     #[inline(always)]
-    fn write_row_beside_solid<G: Gas>(&self, out: &mut [u64])
+    fn write_row<G: Gas, const COPY: u8>(&self, out: &mut [u64])
         requires rows { AreRowsLong G.rules.dirs self.now.rows }
-        requires many { 4 ≤ words_in self.now.rows.width }
         requires long { length out.old ≡ G.rules.dirs * words_in self.now.rows.width }
         ensures long { length out.new ≡ length out.old }
         ensures advanced { (channel : ChannelModel) (at : ℕ → ℕ → ℕ) →
             AreWordsAbout G.rules.dirs channel at self.now.rows →
-            AreAdvanced G.rules channel at self.now 0 (words_in self.now.rows.width) out.old out.new }
+            (x : ℕ) → x < channel.width → state out.new (words_in self.now.rows.width) G.rules.dirs x
+            ≡ advanced_state G.rules self.now.collides (streamed G.rules channel at x self.now.rows.y) (bit self.now.chi.now x) }
     {
-        let words_each = words_for(self.rows.width);
-        for k in 0..words_each.div_ceil(4) {
-            let first = k == 0;
-            let last = words_each <= 4 * k + 4;
-            if first || last {
-                let j = (4 * k).min(words_each - 4);
-                self.write_four::<G>(j, first, last, self.collides, out);
-            } else {
-                self.write_four::<G>(4 * k, false, false, self.collides, out);
-            }
-        }
-    }
-
-    // Writes all words of such a row.
-    #[inline(always)]
-    fn write_many<G: Gas>(&self, out: &mut [u64])
-        requires rows { AreRowsLong G.rules.dirs self.now.rows }
-        requires many { 4 ≤ words_in self.now.rows.width }
-        requires long { length out.old ≡ G.rules.dirs * words_in self.now.rows.width }
-        ensures long { length out.new ≡ length out.old }
-        ensures advanced { (channel : ChannelModel) (at : ℕ → ℕ → ℕ) →
-            AreWordsAbout G.rules.dirs channel at self.now.rows →
-            AreAdvanced G.rules channel at self.now 0 (words_in self.now.rows.width) out.old out.new }
-    {
-        if self.all_fluid {
-            if self.odd {
-                self.write_row::<G, true>(out);
-            } else {
-                self.write_row::<G, false>(out);
-            }
-        } else {
-            self.write_row_beside_solid::<G>(out);
-        }
+        self.write_ends::<G, COPY>(out);
+        self.write_middle::<G, COPY>(out);
     }
 }
 
@@ -434,31 +240,6 @@ impl<'a> Neighbourhood<'a> {
     ghost use Rattle.gas_geom.specs.Channel.{ChannelModel};
     ghost use Rattle.gas_bits.specs.Planes.{has, state};
     ghost use Rattle.gas_rows.specs.Streaming.{AreWordsAbout, AreRowsLong, advanced};
-
-    // What is the same for all words. `odd` is the row's parity.
-    #[inline(always)]
-    fn kernel<'b>(
-        &self,
-        chi: &'b [u64],
-        collides: bool,
-        odd: bool,
-        all_fluid: bool,
-    ) -> Kernel<'a, 'b>
-        requires chi_long { IsTrue collides → length chi.now ≡ words_in self.now.width }
-        requires odd_is { odd ≡ (self.now.y % 2 == 1) }
-        requires fluid_is { IsTrue all_fluid → IsTrue self.now.all_fluid }
-        ensures rows { result.rows ≡ self.now }
-        ensures chi { result.chi.now ≡ chi.now }
-        ensures collides { result.collides ≡ collides }
-    {
-        Kernel {
-            rows: *self,
-            chi,
-            collides,
-            odd,
-            all_fluid,
-        }
-    }
 
     /// Writes the words of the row after streaming and, if it `collides`, the collision that follows, by
     /// these random bits. Bits past the width are 0.
@@ -476,18 +257,23 @@ impl<'a> Neighbourhood<'a> {
             state out.new (words_in self.now.width) G.rules.dirs x
             ≡ advanced G.rules channel collides (λ x y. bit chi.now x) at x self.now.y }
     {
-        // A copy, so that a compiler knows that no store through `out` changes it.
         let rows = *self;
-        let odd = rows.y % 2 == 1;
-        if words_for(rows.width) < 4 {
-            rows.kernel(chi, collides, odd, false)
-                .write_four::<G>(0, true, true, collides, out);
-        } else if odd {
-            rows.kernel(chi, collides, true, rows.all_fluid)
-                .write_many::<G>(out);
-        } else {
-            rows.kernel(chi, collides, false, rows.all_fluid)
-                .write_many::<G>(out);
+        let kernel = Kernel {
+            rows,
+            chi,
+            collides,
+        };
+        let (is_short, is_odd) = (words_for(rows.width) < 4, rows.y % 2 == 1);
+        // In each arm a compiler knows what was matched, and so all moves.
+        match (is_short, rows.all_fluid, is_odd, collides) {
+            (false, true, true, true) => kernel.write_row::<G, 0>(out),
+            (false, true, true, false) => kernel.write_row::<G, 1>(out),
+            (false, true, false, true) => kernel.write_row::<G, 2>(out),
+            (false, true, false, false) => kernel.write_row::<G, 3>(out),
+            (false, false, true, _) => kernel.write_row::<G, 4>(out),
+            (false, false, false, _) => kernel.write_row::<G, 5>(out),
+            (true, _, true, _) => kernel.write_row::<G, 6>(out),
+            (true, _, false, _) => kernel.write_row::<G, 7>(out),
         }
         clear_planes_past(out, directions::<G>(), self.width);
     }

@@ -11,14 +11,18 @@ use Rattle.gas_bits.specs.Inner.Streamed.{AreBeside}
 use Rattle.gas_bits.proofs.Fours.{each_lane}
 use Rattle.gas_bits.proofs.Shifts.{moved-east}
 use Rattle.gas_bits.proofs.Words.{bit-at}
+use Rattle.gas_bits.proofs.stream.east_of.Goals.{then-inner-via-then-inner, then-inner-via-else-inner+then-j-n}
 use Rattle.gas_bits.proofs.stream.east_of.Goals as goal
 
-pub returns-then-not-last : goal.returns-then-not-last
-returns-then-not-last c = λ l hl b hb inside.
+pub returns-then-inner : goal.returns-then-inner
+returns-then-inner c = λ l hl b hb inside.
     let words = c.args.words.now in
     let j : ℕ = c.args.j in
     let width : ℕ = c.args.width in
-    let more : j + 4 < words_in width = c.requires.before_last (let e = c.if-not-last.true in grind arith) in
+    let more : j + 4 < words_in width = elim c.then-inner.branch [
+      | then-inner-via-then-inner w ↦ c.requires.inner w.if-inner.true
+      | then-inner-via-else-inner+then-j-n w ↦ omega (arith, w.if-j-n.true, c.words_for-n.ensures.value)
+    ] in
     let next : 64 * (j + 1 + l) + 0 ≡ 64 * (j + l) + 63 + 1 = omega arith in
     moved-east (bit words) (holds (get_or c.args.here l 0)) _ width (j + l)
     (λ k hk. ap (λ w. holds w k) (c.requires.here l hl) ∙ sym (bit-at words (j + l) k hk)) 63 _ (omega arith) (omega (arith, more, hl))
@@ -33,7 +37,7 @@ returns c = λ l hl b hb inside.
     let width : ℕ = c.args.width in
     let n : ℕ = c.words_for-n.result in
     let n_is : n ≡ words_in width = c.words_for-n.ensures.value in
-    let end : words_in width ≤ j + 4 = c.requires.last (let e = c.if-not-last.false in grind arith) in
+    let end : words_in width ≤ j + 4 = (let e = c.if-inner.false in grind (arith, nat_tests)) in
     let here = c.args.here in
     let beside = c.four_from_east-2.result in
     let read : (k : ℕ) → k < 4 → get_or here k 0 ≡ get_or words (j + k) 0 = c.requires.here in

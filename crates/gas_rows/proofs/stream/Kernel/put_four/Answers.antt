@@ -12,7 +12,7 @@ use Rattle.gas_bits.specs.Planes.{has, four_has}
 use Rattle.gas_bits.proofs.Scatters.{four-written, lane-bit, lane-none}
 use Rattle.gas_rows.specs.Inner.Streaming.{advanced_state}
 use Rattle.gas_rows.proofs.Streaming.{streamed-lt}
-use Rattle.gas_rows.proofs.stream.Kernel.put_four.Goals.{then-collides, else-collides}
+use Rattle.gas_rows.proofs.stream.Kernel.put_four.Goals.{then-self, else-self}
 use Rattle.gas_rows.proofs.stream.Kernel.put_four.Goals as goal
 
 pub returns-clause-advanced : goal.returns-clause-advanced
@@ -24,7 +24,7 @@ returns-clause-advanced g c = λ ch at about x h.
     let y : ℕ = k.rows.y in
     let new = c.write_four_at.new.words in
     let old = c.args.out.now in
-    let planes = c.if-collides.planes in
+    let planes = c.if-self.planes in
     let cell : ℕ = x - 64 * j in
     let none : Bool = holds (get_or (replicate 4 0) (cell / 64) 0) (x % 64) in
     let inside : Bool = nat_le (64 * j) x && nat_lt x (64 * j + 256) in
@@ -38,13 +38,13 @@ returns-clause-advanced g c = λ ch at about x h.
     c.requires.arrived ch at about i cell hi (omega (arith, from, to)) (omega (arith, from, h))
     ∙ ap (λ z. holds (streamed gas ch at z y) i) (let e : 64 * j + cell ≡ x = omega (arith, from) in e)) in
     let after : 64 * j ≤ x → x < 64 * j + 256 → set_in lanes_hold (replicate 4 0) gas.dirs planes cell ≡ advanced_state gas k.collides arrived (bit k.chi.now x) = λ from to.
-    elim c.if-collides.branch [
-      | then-collides w ↦ ap (λ p. set_in lanes_hold (replicate 4 0) gas.dirs p cell) w.planes-is
+    elim c.if-self.branch [
+      | then-self w ↦ ap (λ p. set_in lanes_hold (replicate 4 0) gas.dirs p cell) w.planes-is
           ∙ w.collide_planes-planes.ensures.cells cell (omega (arith, from, to))
           ∙ ap₂ gas.collide (before from to) (lane-bit w.four_at.result k.chi.now j x from w.four_at.ensures.words to)
-          ∙ sym (ap (λ (b : Bool). advanced_state gas b arrived (bit k.chi.now x)) (sym c.requires.collides ∙ w.if-collides.true))
-      | else-collides w ↦ ap (λ p. set_in lanes_hold (replicate 4 0) gas.dirs p cell) w.planes-is ∙ before from to
-          ∙ sym (ap (λ (b : Bool). advanced_state gas b arrived (bit k.chi.now x)) (sym c.requires.collides ∙ w.if-collides.false))
+          ∙ sym (ap (λ (b : Bool). advanced_state gas b arrived (bit k.chi.now x)) (w.if-self.true))
+      | else-self w ↦ ap (λ p. set_in lanes_hold (replicate 4 0) gas.dirs p cell) w.planes-is ∙ before from to
+          ∙ sym (ap (λ (b : Bool). advanced_state gas b arrived (bit k.chi.now x)) (w.if-self.false))
     ] in
     let clear : none ≡ false = lane-none (cell / 64) (x % 64) (omega arith) in
     elim (cases_lt x (64 * j)) [

@@ -1,4 +1,4 @@
-use Rattle.std.proofs.Common.{◌≡◌, ◌<◌, ◌+◌, ◌*◌, ◌/◌, ◌%◌, ℕ, Bool, arith, List, get_or, take, drop, length, ap, ap₂, ◌∙◌}
+use Rattle.std.proofs.Common.{◌≡◌, ◌<◌, ◌+◌, ◌*◌, ◌/◌, ◌%◌, ℕ, arith, List, get_or, take, drop, length, ap, ap₂, ◌∙◌}
 use Rattle.gas_geom.specs.declared.moves.Move.{Move}
 use Rattle.gas_geom.specs.Moves.{column_after}
 use Rattle.gas_geom.specs.Gas.{holds}
@@ -28,9 +28,8 @@ returns g c = λ ch at about direction cell few inside.
     let in_row : x < width = omega (arith, h, about.wide) in
     let opposite : c.opposite-opposite.result ≡ gas.opposite i = c.opposite-opposite.ensures.value in
     let each : c.words_for-words_each.result ≡ n = c.words_for-words_each.ensures.value in
-    let parity : c.args.self.now.odd ≡ is_odd y = c.args.self.now.odd_is in
-    let along = c.moves-along.ensures.along ∙ ap₂ (λ k (o : Bool). (gas.step k o).0) opposite parity in
-    let across = c.moves-along.ensures.down ∙ ap₂ (λ k (o : Bool). (gas.step k o).1) opposite parity in
+    let along = c.moves-along.ensures.along ∙ ap (λ k. (gas.step k (is_odd y)).0) opposite in
+    let across = c.moves-along.ensures.down ∙ ap (λ k. (gas.step k (is_odd y)).1) opposite in
     let from : List ℕ = row_beside m.1 q.above.now q.middle.now q.below.now in
     let u_in : u < width = column_after-lt width x m.0 in_row in
     let from_is : c.row_beside-from.result.now ≡ from = c.row_beside-from.ensures.row ∙ ap (λ a. row_beside a q.above.now q.middle.now q.below.now) across in

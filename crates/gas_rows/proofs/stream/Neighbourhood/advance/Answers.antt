@@ -5,9 +5,7 @@ use Rattle.gas_geom.proofs.Held.{collide-empty}
 use Rattle.gas_bits.specs.Words.{words_in, bit}
 use Rattle.gas_bits.specs.Planes.{state}
 use Rattle.gas_bits.proofs.Cells.{state-same}
-use Rattle.gas_rows.specs.declared.stream.Neighbourhood.{Neighbourhood}
-use Rattle.gas_rows.proofs.Streaming.{all_advanced}
-use Rattle.gas_rows.proofs.stream.Neighbourhood.advance.Goals.{then-words_for-lt4, else-words_for-lt4+then-odd, else-words_for-lt4+else-odd}
+use Rattle.gas_rows.proofs.stream.Neighbourhood.advance.Goals.{in-false-true-true-true, in-false-true-true-false, in-false-true-false-true, in-false-true-false-false, in-false-false-true-default, in-false-false-false-default, in-true-default-true-default, in-true-default-false-default}
 use Rattle.gas_rows.proofs.stream.Neighbourhood.advance.Goals as goal
 
 -- solid cells are empty after streaming, and stay so
@@ -25,18 +23,17 @@ returns-clause-advanced g c = λ ch at about x h.
     let width : ℕ = q.width in
     let n : ℕ = words_in width in
     let inside : x < width = omega (arith, h, about.wide) in
-    let kept : state c.clear_planes_past.new.words n gas.dirs x ≡ state c.if-words_for-lt4.out n gas.dirs x =
-    state-same c.clear_planes_past.new.words c.if-words_for-lt4.out n gas.dirs x (λ i hi.
+    let kept : state c.clear_planes_past.new.words n gas.dirs x ≡ state c.if-is_short.out n gas.dirs x =
+    state-same c.clear_planes_past.new.words c.if-is_short.out n gas.dirs x (λ i hi.
     let e = c.clear_planes_past.ensures.cleared i x (omega (arith, hi, c.directions.ensures.value)) (omega (arith, inside)) in grind (arith, nat_tests)) in
-    kept ∙ elim c.if-words_for-lt4.branch [
-      | then-words_for-lt4 w ↦ ap (λ o. state o n gas.dirs x) w.out-is
-          ∙ all_advanced gas ch at q w.kernel.result 4 c.args.out.now w.write_four.new.out c.args.chi.now c.args.collides
-          w.kernel.ensures.rows w.kernel.ensures.chi w.kernel.ensures.collides about (omega (arith, w.if-words_for-lt4.true, c.words_for.ensures.value)) (w.write_four.ensures.advanced ch at) x h
-      | else-words_for-lt4+then-odd w ↦ ap (λ o. state o n gas.dirs x) w.out-is
-          ∙ all_advanced gas ch at q w.kernel-then-odd.result (words_in w.kernel-then-odd.result.rows.width) c.args.out.now w.write_many.new.out c.args.chi.now c.args.collides
-          w.kernel-then-odd.ensures.rows w.kernel-then-odd.ensures.chi w.kernel-then-odd.ensures.collides about (omega (arith, ap (λ (m : Neighbourhood). words_in m.width) w.kernel-then-odd.ensures.rows)) (w.write_many.ensures.advanced ch at) x h
-      | else-words_for-lt4+else-odd w ↦ ap (λ o. state o n gas.dirs x) w.out-is
-          ∙ all_advanced gas ch at q w.kernel-else-odd.result (words_in w.kernel-else-odd.result.rows.width) c.args.out.now w.write_many-else-odd.new.out c.args.chi.now c.args.collides
-          w.kernel-else-odd.ensures.rows w.kernel-else-odd.ensures.chi w.kernel-else-odd.ensures.collides about (omega (arith, ap (λ (m : Neighbourhood). words_in m.width) w.kernel-else-odd.ensures.rows)) (w.write_many-else-odd.ensures.advanced ch at) x h
+    kept ∙ elim c.if-is_short.branch [
+      | in-false-true-true-true w ↦ ap (λ o. state o n gas.dirs x) w.out-is ∙ w.write_row-in-false-true-true-true.ensures.advanced ch at about x h
+      | in-false-true-true-false w ↦ ap (λ o. state o n gas.dirs x) w.out-is ∙ w.write_row-in-false-true-true-false.ensures.advanced ch at about x h
+      | in-false-true-false-true w ↦ ap (λ o. state o n gas.dirs x) w.out-is ∙ w.write_row-in-false-true-false-true.ensures.advanced ch at about x h
+      | in-false-true-false-false w ↦ ap (λ o. state o n gas.dirs x) w.out-is ∙ w.write_row-in-false-true-false-false.ensures.advanced ch at about x h
+      | in-false-false-true-default w ↦ ap (λ o. state o n gas.dirs x) w.out-is ∙ w.write_row-in-false-false-true-default.ensures.advanced ch at about x h
+      | in-false-false-false-default w ↦ ap (λ o. state o n gas.dirs x) w.out-is ∙ w.write_row-in-false-false-false-default.ensures.advanced ch at about x h
+      | in-true-default-true-default w ↦ ap (λ o. state o n gas.dirs x) w.out-is ∙ w.write_row.ensures.advanced ch at about x h
+      | in-true-default-false-default w ↦ ap (λ o. state o n gas.dirs x) w.out-is ∙ w.write_row-in-true-default-false-default.ensures.advanced ch at about x h
     ]
     ∙ emptied gas.collide (collide-empty gas g.met.G.Gas.laws) c.args.collides (bit c.args.chi.now x) (is_solid ch x q.y) _

@@ -3,12 +3,12 @@ use Rattle.gas_geom.specs.Channel.{ChannelModel}
 use Rattle.gas_bits.specs.Words.{words_in}
 use Rattle.gas_rows.specs.Streaming.{AreWordsAbout}
 use Rattle.gas_rows.specs.Inner.Streaming.{AreAdvanced}
-use Rattle.gas_rows.proofs.stream.Kernel.write_row_beside_solid.Given as goal
+use Rattle.gas_rows.proofs.stream.Kernel.write_middle.Given as goal
 
--- the words before 4 * k are written
+-- words 4 to 4 * k - 1 are written
 abbrev pub invariant-loop-k : goal.invariant-loop-k
 invariant-loop-k g l = record {
   long : length l.out ≡ g.G.Gas.rules.dirs * words_in l.self.rows.width;
   written : (channel : ChannelModel) (at : ℕ → ℕ → ℕ) → AreWordsAbout g.G.Gas.rules.dirs channel at l.self.rows →
-      AreAdvanced g.G.Gas.rules channel at l.self 0 (4 * l.k) l.fn.out l.out;
+      AreAdvanced g.G.Gas.rules channel at l.self 4 (4 * l.k) l.fn.out l.out;
 }
