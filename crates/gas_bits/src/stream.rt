@@ -70,8 +70,8 @@ fn four_from_east(here: u64x4, after: u64x4) -> u64x4
     (here >> u64x4::splat(1)) | (after << u64x4::splat(63))
 }
 
-// The words before words `j` to `j + 3`. Before the first word stands the last one, with the row's
-// last bit on top.
+// Four words whose top bits are the cells west of words `j` to `j + 3`. West of a row's first cell lies
+// its last.
 #[inline(always)]
 fn four_before(words: &[u64], here: u64x4, width: u32, j: usize, inner: bool) -> u64x4
     requires some_cells { 1 ≤ width }

@@ -84,8 +84,8 @@ pub enum Request {
     },
 }
 
-/// Why the words are no request. `Usage` and `Help` contain the text to print, with its last line
-/// feed. The version is a `Help` too.
+/// Why the words are no request. `Usage` and `Help` contain the text to print. The version is a `Help`
+/// too.
 #[derive(Debug, Drop, Error)]
 pub enum UsageFault {
     #[error("memory refused")]
