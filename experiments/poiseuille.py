@@ -83,7 +83,7 @@ def draw(path, asked, channel, profiles, slips):
         middle.errorbar(1e4 * rest, channel.places, xerr=1e4 * error, fmt="C0.")
         middle.axvline(0, color="C1", lw=1)
         middle.set_xlabel("(velocity − parabola) × 10⁴")
-        middle.set_title(f"{channel.rows} rows, {asked.seeds} seeds")
+        middle.set_title(f"{channel.rows} rows, {asked.cells:,} cells, {asked.seeds} seeds")
         right.errorbar(asked.height, *zip(*slips), fmt="C0o", ms=3, label="measured")
         formula = theory.slip(asked.gas, asked.filling, asked.chirality, asked.along)
         right.axhline(formula, color="C1", lw=1, label="formula")
