@@ -2,16 +2,15 @@
 """The Galilean factor: how fast a wind carries a wave of the flow across it, compared with g(d).
 
 In a wind u eastwards the gas moves north and south as v = 0.1 sin(k x). In a fluid the wave would
-move with u. Here it moves with g u. A line is fitted to its phase in the rows a wave's length from
-the walls. Theory: the same fit to the noise-free Boltzmann equation of a gas without walls. For a
-slow wind and a long wave g = (b/12) (1 - 2d) / (1 - d), with b directions (Frisch 1987)."""
+move with u, here with g u. A line is fitted to its phase in 300 (wave / 128)^2 generations, in the
+rows a wave's length from the walls. Theory: the same fit to Boltzmann's equation without walls. For
+a slow wind and a long wave g = (b/12) (1 - 2d) / (1 - d), with b directions (Frisch 1987)."""
 import common
 import fhpgas
 import numpy as np
 from fhpgas import boltzmann, theory
 
-ACROSS, STEP, PARTS, BLOCK = 0.1, 25, 12, 16
-TIMES = STEP * np.arange(PARTS + 1)
+ACROSS, PARTS, BLOCK = 0.1, 12, 16
 
 
 def places(asked, momenta):
@@ -25,25 +24,25 @@ def measured(asked, filling, seed):
     size, across = fhpgas.Size(asked.width, asked.height), np.resize(asked.across, asked.width)
     lattice = fhpgas.draw_gas(filling, asked.wind, across, size=size, gas=asked.gas, seed=seed)
     edge = asked.wave  # within it walls act on the pressure: exp(-k y) = 1/200 at its end
-    blocks = (later.blocks(BLOCK, 1) for later in lattice.every(STEP, PARTS))
+    blocks = (later.blocks(BLOCK, 1) for later in lattice.every(asked.times[1], PARTS))
     return places(asked, [each.py[edge : asked.height - edge].sum(0) for each in blocks])
 
 
 def predicted(asked, filling):
     flow = boltzmann.Flow(asked.gas, np.zeros((2, asked.wave)), has_walls=False)
-    states = flow.every(flow.at(filling, asked.wind, asked.across), STEP, PARTS)
+    states = flow.every(flow.at(filling, asked.wind, asked.across), asked.times[1], PARTS)
     momenta = (flow.momentum(chances)[1].sum(0) for chances in states)
     return places(asked, [each.reshape(-1, BLOCK).sum(1) for each in momenta])
 
 
 def draw(path, asked, waves):
-    d = np.linspace(0.05, 0.6, 100)
+    d, times = np.linspace(0.05, 0.6, 100), asked.times
     with common.axes(path, 1, 2) as (left, right):
         for n, (filling, found, error, factors) in enumerate(waves):
-            left.errorbar(TIMES, found, error, fmt=f"C{n}o", ms=3, label=f"d = {filling}")
-            left.plot(TIMES, np.polyval(np.polyfit(TIMES, found, 1), TIMES), f"C{n}", lw=1)
+            left.errorbar(times, found, error, fmt=f"C{n}o", ms=3, label=f"d = {filling}")
+            left.plot(times, np.polyval(np.polyfit(times, found, 1), times), f"C{n}", lw=1)
             right.errorbar(filling, *fhpgas.mean_and_error(factors), fmt=f"C{n}o", ms=3)
-        left.plot(TIMES, asked.wind * TIMES, "k:", lw=1, label="a fluid")
+        left.plot(times, asked.wind * times, "k:", lw=1, label="a fluid")
         left.set(xlabel="generations", ylabel="way of the wave, cells' widths")
         left.set_title(f"{asked.gas}, wind {asked.wind}, wave {asked.wave}")
         slow, fast = (theory.galilean_factor(asked.gas, d, wind) for wind in (0, asked.wind))
@@ -61,16 +60,17 @@ def main():
     reader.option("--wind", common.number(0.02, 0.3), 0.2, 0.2, speed, metavar="U")
     reader.option("--wave", common.whole(64, 4096), 128, 128, length)
     reader.option("--width", common.whole(64, 65536), 512, 512, "columns, a multiple of the wave")
-    reader.option("--height", common.whole(256, 4096), 768, 512, "rows, more than two waves")
+    reader.option("--height", common.whole(256, 8192), 768, 512, "rows, more than two waves")
     asked, waves = reader.parse_args(), []
     if asked.wave % BLOCK or asked.width % asked.wave or asked.height <= 2 * asked.wave:
         why = f"a multiple of {BLOCK} and a part of the width, and less than half of the height"
         raise fhpgas.Fault(f"the wave, {asked.wave}, is {why}")
     asked.across = ACROSS * np.sin(2 * np.pi * np.arange(asked.wave) / asked.wave)
+    asked.times = round((asked.wave / 128) ** 2 * 25) * np.arange(PARTS + 1)  # all waves fade alike
     for filling in asked.filling:
         runs = common.runs(lambda seed: measured(asked, filling, seed), asked)
         ways = *runs, predicted(asked, filling)
-        *found, expected = (np.polyfit(TIMES, way, 1)[0] / asked.wind for way in ways)
+        *found, expected = (np.polyfit(asked.times, way, 1)[0] / asked.wind for way in ways)
         common.compare(f"{asked.gas} d {filling}: g", found, expected, 4)
         print(f"{'':34} published {theory.galilean_factor(asked.gas, filling):19.4f}")
         waves.append((filling, *fhpgas.mean_and_error(runs), found))
