@@ -1,6 +1,6 @@
 """Runs the commands of docs/EXPERIMENTS.md that take long, its blocks without a mark, as they are printed. The lines of the block after them
-must be among the lines that they print, and they must draw each picture of their section. All take half an hour of processor time, so this
-is for a release."""
+must be among the lines that they print, and they must draw each picture of their section. All take three quarters of an hour of processor
+time, so this is for a release."""
 
 import re
 import subprocess
