@@ -1,8 +1,9 @@
 -- Stages one behind another, as a list: a step of the one at place k, and what it means for those from k on.
-use Rattle.std.proofs.Common.{◌≡◌, ℕ, zero, suc, ◌+◌, ◌-◌, ◌<◌, ◌≤◌, Option, Some, None, IsSome, option_map, List, [], ◌∷◌, ◌++◌, length, map, take, drop, get_or, set, ap, ◌∙◌, sym, refl, subst, arith, add-one, append-nil}
+use Rattle.std.proofs.Common.{◌≡◌, ℕ, zero, suc, ◌+◌, ◌-◌, ◌<◌, ◌≤◌, Option, Some, None, IsSome, is_some, false, option_map, List, [], ◌∷◌, ◌++◌, length, map, take, drop, get_or, set, ap, ◌∙◌, sym, refl, subst, arith, add-one, append-nil}
 use Rattle.std.specs.Option.{option_to_list}
 use Rattle.std.specs.List.{range_with_len}
 use Rattle.std.proofs.Math.Seq.{drop-cons}
+use Rattle.std.proofs.lemmas.Bool.{false≢true}
 use Rattle.std.proofs.lemmas.List.{length_push, length-take, drop-set-lt, drop_all}
 use Rattle.gas_geom.specs.Gas.{Rules}
 use Rattle.gas_geom.specs.Channel.{ChannelModel}
@@ -36,9 +37,10 @@ from_here : {A : Type 0} (xs : List A) (k : ℕ) (d : A) → k < length xs → d
 from_here xs k d low = rw add-one (drop-cons xs k d low)
 
 -- a stage that returned a row had given fewer
-some_more : (gas : Rules) (c : ChannelModel) (h : Chirality) (does : Option ℕ) (before after : List (List ℕ)) (r : List ℕ) →
-    Returned gas c h does before after (Some r) → length after ≡ length before + 1
-some_more gas c h does before after r back = by back.row back.more back.is
+some_more : (gas : Rules) (c : ChannelModel) (h : Chirality) (does : Option ℕ) (before after : List (List ℕ)) (o : Option (List ℕ)) → IsSome o →
+    Returned gas c h does before after o → length after ≡ length before + 1
+some_more gas c h does before after None some back = absurd (false≢true some)
+some_more gas c h does before after (Some r) some back = by back.row back.more back.is
   where
     by : (row : Option (List ℕ)) → after ≡ before ++ option_to_list row → Some r ≡ option_map (kept gas c h does (length before)) row →
         length after ≡ length before + 1
@@ -96,21 +98,22 @@ module _ (gas : Rules) (c : ChannelModel) (h : Chirality) where
       (closed.0, closed.1, closed.2, closed-push stages s closed.3 channel chirality none)
 
   -- nothing goes into stages that are fed nothing
-  pub none_behind : (stages : List StageModel) (es : List (Option ℕ)) (q : List (List ℕ)) (r : Option (List ℕ)) → Each 0 stages es q →
-      None ≡ option_map (kept gas c h (first_does es) (length q)) r →
-      Each 0 stages es (q ++ option_to_list r) × (given_by gas c h 0 es (q ++ option_to_list r) ≡ given_by gas c h 0 es q ++ [])
-  none_behind stages es q None fed e =
+  pub none_behind : (stages : List StageModel) (o : Option (List ℕ)) → is_some o ≡ false →
+      (es : List (Option ℕ)) (q : List (List ℕ)) (r : Option (List ℕ)) → Each 0 stages es q → o ≡ option_map (kept gas c h (first_does es) (length q)) r →
+      Each 0 stages es (q ++ option_to_list r) × (given_by gas c h 0 es (q ++ option_to_list r) ≡ given_by gas c h 0 es q ++ option_to_list o)
+  none_behind stages None none es q None fed e =
       (subst (Each 0 stages es) (sym (append-nil q)) fed, ap (given_by gas c h 0 es) (append-nil q) ∙ sym (append-nil (given_by gas c h 0 es q)))
-  none_behind stages es q (Some r) fed e = cc
+  none_behind stages None none es q (Some r) fed e = cc
+  none_behind stages (Some x) none es q r fed e = absurd (false≢true (sym none))
 
   -- one that is returned goes into those behind
-  pub one_behind : (stages new : List StageModel) (x : List ℕ) (result : Option (List ℕ)) →
-      ((es : List (Option ℕ)) (q : List (List ℕ)) (r : List ℕ) → Each 0 stages es q → x ≡ kept gas c h (first_does es) (length q) r →
+  pub one_behind : (stages new : List StageModel) (o result : Option (List ℕ)) → IsSome o →
+      ((es : List (Option ℕ)) (q : List (List ℕ)) (r : List ℕ) → Each 0 stages es q → o ≡ Some (kept gas c h (first_does es) (length q) r) →
       Each 0 new es (q ++ r ∷ []) × (given_by gas c h 0 es (q ++ r ∷ []) ≡ given_by gas c h 0 es q ++ option_to_list result)) →
-      (es : List (Option ℕ)) (q : List (List ℕ)) (r : Option (List ℕ)) → Each 0 stages es q → Some x ≡ option_map (kept gas c h (first_does es) (length q)) r →
+      (es : List (Option ℕ)) (q : List (List ℕ)) (r : Option (List ℕ)) → Each 0 stages es q → o ≡ option_map (kept gas c h (first_does es) (length q)) r →
       Each 0 new es (q ++ option_to_list r) × (given_by gas c h 0 es (q ++ option_to_list r) ≡ given_by gas c h 0 es q ++ option_to_list result)
-  one_behind stages new x result later es q None fed e = absurd (let no_row = e in cc)
-  one_behind stages new x result later es q (Some r) fed e = later es q r fed (cc)
+  one_behind stages new o result some later es q None fed e = absurd (false≢true (subst IsSome e some))
+  one_behind stages new o result some later es q (Some r) fed e = later es q r fed e
 
   -- what the first of stages does
   pub first_is : (stages : List StageModel) (k : ℕ) (d : StageModel) (es : List (Option ℕ)) (q : List (List ℕ)) → k < length stages → Each 0 (drop k stages) es q →
@@ -217,17 +220,17 @@ module _ (gas : Rules) (c : ChannelModel) (h : Chirality) where
           )
 
       -- the stages behind it can be fed what its flush returned
-      pub can_be_fed : (does : Option ℕ) (r : List ℕ) →
+      pub can_be_fed : (does : Option ℕ) (o : Option (List ℕ)) → IsSome o →
           ((p : Option ℕ) (q : List (List ℕ)) → MayHaveBeenFed gas s p q →
-          Returned gas s.channel s.chirality does (given gas s.channel s.chirality p q) (owed gas s.channel s.chirality p q) (Some r)) →
+          Returned gas s.channel s.chirality does (given gas s.channel s.chirality p q) (owed gas s.channel s.chirality p q) o) →
           IsUnderWay gas c h 0 c.height (drop k stages) → (m : ℕ) × (IsUnderWay gas c h 0 m (drop (k + 1) (set stages k s')) × (m < c.height))
-      can_be_fed does r gives way = by way.es way.q (sym way.fed_is) (subst (λ (l : List StageModel). Each 0 l way.es way.q) here way.fits)
+      can_be_fed does o some gives way = by way.es way.q (sym way.fed_is) (subst (λ (l : List StageModel). Each 0 l way.es way.q) here way.fits)
         where
           by : (es : List (Option ℕ)) (q : List (List ℕ)) → length q ≡ c.height → Each 0 (s ∷ drop (k + 1) stages) es q →
               (m : ℕ) × (IsUnderWay gas c h 0 m (drop (k + 1) (set stages k s')) × (m < c.height))
           by [] q high fed = absurd fed
           by (p ∷ es) q high fed =
-              let back : Returned gas c h does (given gas c h p q) (owed gas c h p q) (Some r) = rw (fed.0, fed.1) at (gives p q fed.2) in (
+              let back : Returned gas c h does (given gas c h p q) (owed gas c h p q) o = rw (fed.0, fed.1) at (gives p q fed.2) in (
                 length (given gas c h p q),
                 (
                   record {
@@ -236,7 +239,7 @@ module _ (gas : Rules) (c : ChannelModel) (h : Chirality) where
                     fed_is = refl;
                     fits = subst (λ (l : List StageModel). Each 0 l es (given gas c h p q)) (sym behind) fed.3;
                   },
-                  omega (arith, some_more gas c h does _ _ r back, owed-all gas c h p q high),
+                  omega (arith, some_more gas c h does _ _ o some back, owed-all gas c h p q high),
                 ),
               )
 
@@ -275,20 +278,20 @@ module _ (gas : Rules) (c : ChannelModel) (h : Chirality) where
               (back.is ∙ ap (λ p. option_map (kept gas c h p (length before)) back.row) (first es before fed)))
 
           -- a row goes into it
-          pub passes : (row : List ℕ) →
-              ((p : Option ℕ) (q : List (List ℕ)) (r : List ℕ) → MayHaveBeenFed gas s p q → row ≡ kept gas s.channel s.chirality p (length q) r →
+          pub passes : (row : Option (List ℕ)) →
+              ((p : Option ℕ) (q : List (List ℕ)) (r : List ℕ) → MayHaveBeenFed gas s p q → row ≡ Some (kept gas s.channel s.chirality p (length q) r) →
               MayHaveBeenFed gas s' p (q ++ r ∷ [])) →
-              ((p : Option ℕ) (q : List (List ℕ)) (r : List ℕ) → MayHaveBeenFed gas s p q → row ≡ kept gas s.channel s.chirality p (length q) r →
+              ((p : Option ℕ) (q : List (List ℕ)) (r : List ℕ) → MayHaveBeenFed gas s p q → row ≡ Some (kept gas s.channel s.chirality p (length q) r) →
               Returned gas s.channel s.chirality does (given gas s.channel s.chirality p q) (given gas s.channel s.chirality p (q ++ r ∷ [])) o) →
-              (es : List (Option ℕ)) (q : List (List ℕ)) (r : List ℕ) → Each 0 (drop k stages) es q → row ≡ kept gas c h (first_does es) (length q) r →
+              (es : List (Option ℕ)) (q : List (List ℕ)) (r : List ℕ) → Each 0 (drop k stages) es q → row ≡ Some (kept gas c h (first_does es) (length q) r) →
               Each 0 (drop k new) es (q ++ r ∷ []) × (given_by gas c h 0 es (q ++ r ∷ []) ≡ given_by gas c h 0 es q ++ option_to_list result)
           passes row fits gives es q r was = by es (subst (λ (l : List StageModel). Each 0 l es q) here was)
             where
-              by : (es : List (Option ℕ)) → Each 0 (s ∷ drop (k + 1) stages) es q → row ≡ kept gas c h (first_does es) (length q) r →
+              by : (es : List (Option ℕ)) → Each 0 (s ∷ drop (k + 1) stages) es q → row ≡ Some (kept gas c h (first_does es) (length q) r) →
                   Each 0 (drop k new) es (q ++ r ∷ []) × (given_by gas c h 0 es (q ++ r ∷ []) ≡ given_by gas c h 0 es q ++ option_to_list result)
               by [] fed enters = absurd fed
               by (p ∷ es) fed enters =
-                  let enters_here : row ≡ kept gas s.channel s.chirality p (length q) r = rw (fed.0, fed.1) enters in
+                  let enters_here : row ≡ Some (kept gas s.channel s.chirality p (length q) r) = rw (fed.0, fed.1) enters in
                   let back : Returned gas c h does (given gas c h p q) (given gas c h p (q ++ r ∷ [])) o = rw (fed.0, fed.1) at (gives p q r fed.2 enters_here) in
                   let both = goes_on es (given gas c h p q) (given gas c h p (q ++ r ∷ [])) back fed.3 in (
                     subst (λ (l : List StageModel). Each 0 l (p ∷ es) (q ++ r ∷ [])) (sym here')

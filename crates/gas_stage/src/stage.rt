@@ -165,7 +165,9 @@ impl<'a, G: Gas> Stage<'a, G> {
             ≡ given G.rules self.old.channel self.old.chirality p q ++ option_to_list result }
     {
         self.collide(&mut row);
-        self.pass_on(row, None)
+        let mut row = Some(row);
+        self.pass_on(&mut row, None);
+        row
     }
 
     // Collides the row that is fed next, if the stage computes.
@@ -199,55 +201,56 @@ impl<'a, G: Gas> Stage<'a, G> {
         }
     }
 
-    /// Takes the next row of the open pass, collided if the stage computes, and returns what `feed`
-    /// returns, collided for the step from a later generation if one is given.
+    /// Takes the next row of the open pass, collided if the stage computes, and leaves what `feed`
+    /// returns in its place, collided for the step from a later generation if one is given.
     #[inline(always)]
-    pub(crate) fn pass_on(&mut self, mut row: Row<G>, then: Option<u64>) -> Option<Row<G>>
+    pub(crate) fn pass_on(&mut self, row: &mut Option<Row<G>>, then: Option<u64>)
         requires open { IsSome self.old.pass }
         requires room { self.old.fed < self.old.channel.height }
-        requires wide { length row ≡ self.old.channel.width }
+        requires some { IsSome row.old }
+        requires wide { IfSome row.old (λ r. length r ≡ self.old.channel.width) }
         ensures channel { self.new.channel ≡ self.old.channel }
         ensures chirality { self.new.chirality ≡ self.old.chirality }
         ensures pass { self.new.pass ≡ self.old.pass }
         ensures fed { self.new.fed ≡ self.old.fed + 1 }
-        ensures passes_on { self.old.pass ≡ Some None → then ≡ None → result ≡ Some row }
-        ensures wide { IfSome result (λ r. length r ≡ self.old.channel.width) }
+        ensures passes_on { self.old.pass ≡ Some None → then ≡ None → row.new ≡ row.old }
+        ensures wide { IfSome row.new (λ r. length r ≡ self.old.channel.width) }
         ensures fits { (p : Option ℕ) (q : List (List ℕ)) (r : List ℕ) →
             MayHaveBeenFed G.rules self.old p q →
-            row ≡ kept G.rules self.old.channel self.old.chirality p (length q) r →
+            row.old ≡ Some (kept G.rules self.old.channel self.old.chirality p (length q) r) →
             MayHaveBeenFed G.rules self.new p (q ++ r ∷ []) }
         ensures gives { (p : Option ℕ) (q : List (List ℕ)) (r : List ℕ) →
             MayHaveBeenFed G.rules self.old p q →
-            row ≡ kept G.rules self.old.channel self.old.chirality p (length q) r →
+            row.old ≡ Some (kept G.rules self.old.channel self.old.chirality p (length q) r) →
             Returned G.rules self.old.channel self.old.chirality then
             (given G.rules self.old.channel self.old.chirality p q)
-            (given G.rules self.old.channel self.old.chirality p (q ++ r ∷ [])) result }
+            (given G.rules self.old.channel self.old.chirality p (q ++ r ∷ [])) row.new }
     {
         let y = self.fed;
         self.fed += 1;
+        let Some(passed) = row else { unreachable!() };
         let Mode::Computes(_) = self.mode else {
-            collide_if(self.channel, &mut self.random_bits, then, y, &mut row);
-            return Some(row);
+            collide_if(self.channel, &mut self.random_bits, then, y, passed);
+            return;
         };
-        let Some(last) = self.last.take() else {
-            self.last = Some(row);
-            return None;
+        let Some(last) = &mut self.last else {
+            self.last = row.take();
+            return;
         };
-        let above = mem::replace(&mut self.before_last, last);
-        let mut given = mem::replace(&mut self.oldest, above);
+        mem::swap(passed, last);
+        mem::swap(passed, &mut self.before_last);
+        mem::swap(passed, &mut self.oldest);
         draw_if::<G>(&mut self.random_bits, then, y - 1);
         stream_into(
             self.channel,
             y - 1,
             &self.oldest,
             &self.before_last,
-            &row,
+            last,
             self.random_bits.mask(),
             then.is_some(),
-            &mut given,
+            passed,
         );
-        self.last = Some(row);
-        Some(given)
     }
 
     /// Closes the open pass, in which all rows were fed. A computing pass returns the last row of

@@ -1,6 +1,6 @@
 //! Stages one behind another: they compute several generations in one pass, and keep three rows for
 //! each.
-ghost use Rattle.std.specs.Prelude.{◌≡◌, ◌+◌, ◌<◌, ◌≤◌, ◌^◌, ◌++◌, ◌∷◌, ℕ, [], List, length, map, take, drop, nat_lt, if◌then◌else◌, Option, Some, None, IsNone, IfSome, IfOk, IsTrue, ◌↔◌};
+ghost use Rattle.std.specs.Prelude.{◌≡◌, ◌+◌, ◌<◌, ◌≤◌, ◌^◌, ◌++◌, ◌∷◌, ℕ, [], List, length, map, take, drop, nat_lt, if◌then◌else◌, Option, Some, None, IsNone, IsSome, IfSome, IfOk, IsTrue, ◌↔◌};
 ghost use Rattle.std.specs.List.{range_with_len};
 ghost use Rattle.std.specs.Option.{option_to_list};
 ghost use Rattle.gas_geom.specs.Channel.{ChannelModel};
@@ -138,7 +138,9 @@ impl<'a, G: Gas> Stages<'a, G> {
             &mut row,
         );
         self.fed += 1;
-        pass_from(&mut self.stages, 0, row)
+        let mut row = Some(row);
+        pass_from(&mut self.stages, 0, &mut row);
+        row
     }
 
     /// Flushes stage after stage, each into those behind it, until the last one returns a row. None
@@ -240,30 +242,32 @@ fn generation_of<G: Gas>(stages: &[Stage<'_, G>], k: usize) -> Option<u64>
     }
 }
 
-// Passes a row that is collided for stage `k` to it, and what each stage returns, collided for the
-// next one, to the next. What the last one returns is not collided.
-fn pass_from<G: Gas>(stages: &mut [Stage<'_, G>], k: usize, row: Row<G>) -> Option<Row<G>>
+// Passes a row that is collided for stage `k` to it, and what each stage gives for it, collided for the
+// next one, to the next. What the last one gives is not collided, and stands in the row's place then.
+fn pass_from<G: Gas>(stages: &mut [Stage<'_, G>], k: usize, row: &mut Option<Row<G>>)
     requires fits { (c : ChannelModel) × ((h : Chirality) × ((n : ℕ) ×
         (IsUnderWay G.rules c h 0 n (drop k stages.old) × (n < c.height)
-        × (length row ≡ c.width)))) }
+        × IfSome row.old (λ r. length r ≡ c.width)))) }
+    requires some { IsSome row.old }
     ensures before { take k stages.new ≡ take k stages.old }
-    ensures wide { IfSome result (λ r. length r ≡ length row) }
+    ensures wide { (n : ℕ) → IfSome row.old (λ r. length r ≡ n) → IfSome row.new (λ r. length r ≡ n) }
     ensures fits { (c : ChannelModel) (h : Chirality) (es : List (Option ℕ)) (q : List (List ℕ))
         (r : List ℕ) → MayEachHaveBeenFed G.rules c h 0 (drop k stages.old) es q →
-        row ≡ kept G.rules c h (first_does es) (length q) r →
+        row.old ≡ Some (kept G.rules c h (first_does es) (length q) r) →
         MayEachHaveBeenFed G.rules c h 0 (drop k stages.new) es (q ++ r ∷ []) }
     ensures gives { (c : ChannelModel) (h : Chirality) (es : List (Option ℕ)) (q : List (List ℕ))
         (r : List ℕ) → MayEachHaveBeenFed G.rules c h 0 (drop k stages.old) es q →
-        row ≡ kept G.rules c h (first_does es) (length q) r →
+        row.old ≡ Some (kept G.rules c h (first_does es) (length q) r) →
         given_by G.rules c h 0 es (q ++ r ∷ [])
-        ≡ given_by G.rules c h 0 es q ++ option_to_list result }
+        ≡ given_by G.rules c h 0 es q ++ option_to_list row.new }
 {
-    if k >= stages.len() {
-        return Some(row);
+    if k < stages.len() {
+        let then = generation_of(stages, k + 1);
+        stages[k].pass_on(row, then);
+        if row.is_some() {
+            pass_from(stages, k + 1, row);
+        }
     }
-    let then = generation_of(stages, k + 1);
-    let row = stages[k].pass_on(row, then)?;
-    pass_from(stages, k + 1, row)
 }
 
 // Flushes stage `k`, behind those that were flushed, into the ones behind it.
@@ -282,6 +286,9 @@ fn flush_stage<G: Gas>(stages: &mut [Stage<'_, G>], k: usize) -> Option<Row<G>>
         ≡ given_by G.rules c h k es q ++ option_to_list result }
 {
     let then = generation_of(stages, k + 1);
-    let last = stages[k].end(then)?;
-    pass_from(stages, k + 1, last)
+    let mut last = stages[k].end(then);
+    if last.is_some() {
+        pass_from(stages, k + 1, &mut last);
+    }
+    last
 }

@@ -1,50 +1,23 @@
-use Rattle.std.proofs.Common.{rules, ◌<◌, ℕ, Option, Some, None, List, ◌++◌, length, set, ap, ◌∙◌, sym, refl, arith}
-use Rattle.std.specs.Option.{option_to_list}
+use Rattle.std.proofs.Common.{rules, ◌≡◌, ◌<◌, length, ap, ◌∙◌, sym, arith, subst, IfSome}
 use Rattle.gas_geom.specs.Channel.{ChannelModel}
-use Rattle.gas_stage.specs.Stages.{given_by}
-use Rattle.gas_stage.proofs.Composed.{written, can_feed, passes, can_go_on, none_behind, one_behind}
+use Rattle.gas_stage.proofs.Composed.{written, can_feed, passes, can_go_on, one_behind}
 use Rattle.gas_stage.proofs.stages.+pass_from.Goals as goal
 
-pub returns-in_err-row-clause-fits : goal.returns-in_err-row-clause-fits
-returns-in_err-row-clause-fits g t c ch h es q r was enters =
-    let gas = g.G.Gas.rules in
-    (passes gas ch h c.args.stages.now c.args.k c.index-stages-k.result (omega arith) c.pass_on.new.self
-    (set c.args.stages.now c.args.k c.pass_on.new.self) refl None None c.generation_of-then.result c.pass_on.ensures.channel c.pass_on.ensures.chirality
-    (c.generation_of-then.ensures ch h) (none_behind gas ch h _)
-    c.args.row c.pass_on.ensures.fits c.in_err-row.ensures.gives es q r was enters).0
+pub pass_on-requires-clause-open : goal.pass_on-requires-clause-open
+pass_on-requires-clause-open g t c =
+    (can_feed g.G.Gas.rules c.requires.fits.0 c.requires.fits.1.0 c.args.stages.now c.args.k c.index-stages-k.result (omega arith) c.requires.fits.1.1.0 c.requires.fits.1.1.1.0).1
 
-pub returns-in_err-row-clause-gives : goal.returns-in_err-row-clause-gives
-returns-in_err-row-clause-gives g t c ch h es q r was enters =
-    let gas = g.G.Gas.rules in
-    (passes gas ch h c.args.stages.now c.args.k c.index-stages-k.result (omega arith) c.pass_on.new.self
-    (set c.args.stages.now c.args.k c.pass_on.new.self) refl None None c.generation_of-then.result c.pass_on.ensures.channel c.pass_on.ensures.chirality
-    (c.generation_of-then.ensures ch h) (none_behind gas ch h _)
-    c.args.row c.pass_on.ensures.fits c.in_err-row.ensures.gives es q r was enters).1
-    ∙ ap (λ (o : Option (List ℕ)). given_by gas ch h 0 es q ++ option_to_list o) (sym c.from_residual.ensures)
+pub pass_on-requires-clause-room : goal.pass_on-requires-clause-room
+pass_on-requires-clause-room g t c =
+    let ch : ChannelModel = c.requires.fits.0 in
+    let known = can_feed g.G.Gas.rules ch c.requires.fits.1.0 c.args.stages.now c.args.k c.index-stages-k.result (omega arith) c.requires.fits.1.1.0 c.requires.fits.1.1.1.0 in
+    omega (arith, known.2, ap (λ (v : ChannelModel). v.height) known.0, c.requires.fits.1.1.1.1)
 
-pub returns-clause-before : goal.returns-clause-before
-returns-clause-before g t c =
-    (written c.args.stages.now c.pass_from.new.stages c.args.k c.pass_on.new.self (omega arith) c.pass_from.ensures.before).0
-
-pub returns-clause-fits : goal.returns-clause-fits
-returns-clause-fits g t c ch h es q r was enters =
-    let gas = g.G.Gas.rules in
-    (passes gas ch h c.args.stages.now c.args.k c.index-stages-k.result (omega arith) c.pass_on.new.self
-    c.pass_from.new.stages c.pass_from.ensures.before (Some c.in_ok-row.row) c.pass_from.result c.generation_of-then.result
-    c.pass_on.ensures.channel c.pass_on.ensures.chirality (c.generation_of-then.ensures ch h)
-    (one_behind gas ch h _ _ c.in_ok-row.row c.pass_from.result
-    (λ es q r fed enters. (c.pass_from.ensures.fits ch h es q r fed enters, c.pass_from.ensures.gives ch h es q r fed enters)))
-    c.args.row c.pass_on.ensures.fits c.in_ok-row.ensures.gives es q r was enters).0
-
-pub returns-clause-gives : goal.returns-clause-gives
-returns-clause-gives g t c ch h es q r was enters =
-    let gas = g.G.Gas.rules in
-    (passes gas ch h c.args.stages.now c.args.k c.index-stages-k.result (omega arith) c.pass_on.new.self
-    c.pass_from.new.stages c.pass_from.ensures.before (Some c.in_ok-row.row) c.pass_from.result c.generation_of-then.result
-    c.pass_on.ensures.channel c.pass_on.ensures.chirality (c.generation_of-then.ensures ch h)
-    (one_behind gas ch h _ _ c.in_ok-row.row c.pass_from.result
-    (λ es q r fed enters. (c.pass_from.ensures.fits ch h es q r fed enters, c.pass_from.ensures.gives ch h es q r fed enters)))
-    c.args.row c.pass_on.ensures.fits c.in_ok-row.ensures.gives es q r was enters).1
+pub pass_on-requires-clause-wide : goal.pass_on-requires-clause-wide
+pass_on-requires-clause-wide g t c =
+    let ch : ChannelModel = c.requires.fits.0 in
+    let known = can_feed g.G.Gas.rules ch c.requires.fits.1.0 c.args.stages.now c.args.k c.index-stages-k.result (omega arith) c.requires.fits.1.1.0 c.requires.fits.1.1.1.0 in
+    subst (λ (v : ChannelModel). IfSome c.args.row.now (λ r. length r ≡ v.width)) (sym known.0) c.requires.fits.1.1.1.2
 
 pub pass_from-requires : goal.pass_from-requires
 pass_from-requires g t c κs within =
@@ -57,18 +30,35 @@ pass_from-requires g t c κs within =
       (
         search rules,
         (
-          ch,
           (
-            c.requires.fits.1.0,
+            ch,
             (
-              on.0,
+              c.requires.fits.1.0,
               (
-                on.1.0,
-                omega (arith, on.1.1, way.1),
-                c.in_ok-row.ensures.wide ∙ ap (λ (v : ChannelModel). v.width) known.0,
+                on.0,
+                (
+                  on.1.0,
+                  omega (arith, on.1.1, way.1),
+                  subst (λ (v : ChannelModel). IfSome c.pass_on.new.row (λ r. length r ≡ v.width)) known.0 c.pass_on.ensures.wide,
+                ),
               ),
             ),
           ),
+          sym c.is_some.ensures ∙ c.if-is_some.true,
         ),
       ),
     )
+
+pub returns-then-is_some-clause-before : goal.returns-then-is_some-clause-before
+returns-then-is_some-clause-before g t c =
+    (written c.args.stages.now c.pass_from.new.stages c.args.k c.pass_on.new.self (omega arith) c.pass_from.ensures.before).0
+
+pub returns-then-is_some-clause-fits : goal.returns-then-is_some-clause-fits
+returns-then-is_some-clause-fits g t c ch h es q r was enters =
+    let gas = g.G.Gas.rules in
+    (passes gas ch h c.args.stages.now c.args.k c.index-stages-k.result (omega arith) c.pass_on.new.self
+    c.pass_from.new.stages c.pass_from.ensures.before c.pass_on.new.row c.pass_from.new.row c.generation_of-then.result
+    c.pass_on.ensures.channel c.pass_on.ensures.chirality (c.generation_of-then.ensures ch h)
+    (one_behind gas ch h _ _ c.pass_on.new.row c.pass_from.new.row (sym c.is_some.ensures ∙ c.if-is_some.true)
+    (λ es q r fed enters. (c.pass_from.ensures.fits ch h es q r fed enters, c.pass_from.ensures.gives ch h es q r fed enters)))
+    c.args.row.now c.pass_on.ensures.fits c.pass_on.ensures.gives es q r was enters).0

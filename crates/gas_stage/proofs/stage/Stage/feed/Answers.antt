@@ -26,11 +26,11 @@ returns-clause-passes_on g c = λ passes.
     c.pass_on.ensures.passes_on (ap (λ (v : StageModel). v.pass) c.collide.ensures.same ∙ passes) refl ∙ ap (λ r. Some r) (c.collide.ensures.kept None passes)
 
 pub returns-clause-fits : goal.returns-clause-fits
-returns-clause-fits g c = λ p q fits. c.pass_on.ensures.fits p q c.args.row (here g c p q fits) (enters g c p q fits)
+returns-clause-fits g c = λ p q fits. c.pass_on.ensures.fits p q c.args.row (here g c p q fits) (ap (λ r. Some r) (enters g c p q fits))
 
 pub returns-clause-gives : goal.returns-clause-gives
 returns-clause-gives g c = λ p q fits.
     subst (λ (v : StageModel). given g.G.Gas.rules v.channel v.chirality p (q ++ c.args.row ∷ [])
-    ≡ given g.G.Gas.rules v.channel v.chirality p q ++ option_to_list c.pass_on.result) c.collide.ensures.same
-    (returned_raw g.G.Gas.rules c.collide.new.self.channel c.collide.new.self.chirality _ _ c.pass_on.result
-    (c.pass_on.ensures.gives p q c.args.row (here g c p q fits) (enters g c p q fits)))
+    ≡ given g.G.Gas.rules v.channel v.chirality p q ++ option_to_list c.pass_on.new.row) c.collide.ensures.same
+    (returned_raw g.G.Gas.rules c.collide.new.self.channel c.collide.new.self.chirality _ _ c.pass_on.new.row
+    (c.pass_on.ensures.gives p q c.args.row (here g c p q fits) (ap (λ r. Some r) (enters g c p q fits))))

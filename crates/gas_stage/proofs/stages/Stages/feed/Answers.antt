@@ -1,4 +1,4 @@
-use Rattle.std.proofs.Common.{◌≡◌, ◌<◌, ℕ, Option, List, [], ◌∷◌, ◌++◌, length, ap, ◌∙◌, sym, subst, arith}
+use Rattle.std.proofs.Common.{◌≡◌, ◌<◌, ℕ, Option, Some, List, [], ◌∷◌, ◌++◌, length, ap, ◌∙◌, sym, subst, refl, arith}
 use Rattle.std.specs.Option.{option_to_list}
 use Rattle.std.proofs.lemmas.List.{with_items_is, length_push}
 use Rattle.gas_stage.specs.Stages.{StagesModel, MayAllHaveBeenFed, MayEachHaveBeenFed, given_by}
@@ -12,14 +12,14 @@ use Rattle.gas_stage.proofs.stages.Stages.feed.Goals as goal
 -- the row is passed on as the first stage keeps it
 enters : (g : Over) (c : After-self-2-1 g) (es : List (Option ℕ)) (q : List (List ℕ)) →
     MayEachHaveBeenFed g.G.Gas.rules c.self.inside.channel.now c.self.inside.chirality 0 c.self.inside.stages.items es q → c.self.inside.fed ≡ length q →
-    c.collide_if.new.row ≡ kept g.G.Gas.rules c.self.inside.channel.now c.self.inside.chirality (first_does es) (length q) c.args.row
+    Some c.collide_if.new.row ≡ Some (kept g.G.Gas.rules c.self.inside.channel.now c.self.inside.chirality (first_does es) (length q) c.args.row)
 enters g c es q each fed =
     let s = c.self.inside in
     let row = kept g.G.Gas.rules s.channel.now in
-    c.collide_if.ensures.kept
+    ap (λ r. Some r) (c.collide_if.ensures.kept
     ∙ ap (λ p. row s.entry_bits.chirality p s.fed c.args.row) (c.generation_of-generation.ensures s.channel.now s.chirality es q (rw c.deref.ensures.value each))
     ∙ ap (λ h. row h (first_does es) s.fed c.args.row) c.self.invariant.entry_bits_alike
-    ∙ ap (λ y. row s.chirality (first_does es) y c.args.row) fed
+    ∙ ap (λ y. row s.chirality (first_does es) y c.args.row) fed)
 
 pub pass_from-requires : goal.pass_from-requires
 pass_from-requires g c =
@@ -44,6 +44,7 @@ pass_from-requires g c =
           ),
         ),
       );
+      some = refl;
     }
 
 pub returns-clause-none_flushed : goal.returns-clause-none_flushed
@@ -105,5 +106,5 @@ returns-clause-gives g c es q was =
     let old = subst (λ (v : StagesModel). MayAllHaveBeenFed g.G.Gas.rules v es q) (sym c.self.view_is) was in
     let each = subst (λ n. MayEachHaveBeenFed g.G.Gas.rules s.channel.now s.chirality n s.stages.items es q) none old.each in
     subst (λ (v : StagesModel). given_by g.G.Gas.rules v.channel v.chirality 0 es (q ++ c.args.row ∷ [])
-    ≡ given_by g.G.Gas.rules v.channel v.chirality 0 es q ++ option_to_list c.pass_from.result) c.self.view_is
+    ≡ given_by g.G.Gas.rules v.channel v.chirality 0 es q ++ option_to_list c.pass_from.new.row) c.self.view_is
     (c.pass_from.ensures.gives s.channel.now s.chirality es q c.args.row (rw c.deref_mut.ensures.value each) (enters g c es q each old.fed))
