@@ -34,7 +34,7 @@ LATTICES = [
     "256x256x8000:seeded",
     "1024x1024x1500:left",
     "1024x1024x1000:seeded",
-    "4096x1024x600:left",
+    "4096x1024x4000:left",
     "4096x1024x300:seeded",
 ]
 C_PROGRAMS = ["bands", "bytes"]
