@@ -109,7 +109,7 @@ case $1 in
             plain
             export FHPGAS=$checked
         fi
-        tests tests/program/{command_line,cells_beside_{c,golly},reference_scenes,mutated_scenes,large_scenes,largest_sizes}.py \
+        tests tests/program/{command_line,cells_beside_{c,golly},reference_scenes,mutated_scenes,large_scenes}.py \
             tests/documents/version.py --scenes 5000
         package
         mkdir -p out

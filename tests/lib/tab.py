@@ -1,12 +1,12 @@
 """A tab of Chromium with the page, for its tests: real events of mouse, fingers and keys."""
 
 import json
-import time
 
 import needs
 from selenium import webdriver
 from selenium.webdriver.common.action_chains import ActionChains
 from selenium.webdriver.common.by import By
+from selenium.webdriver.support.wait import WebDriverWait
 
 WORDS = (
     "--headless=new",
@@ -38,11 +38,8 @@ class Page:
         metrics = {"width": size[0], "height": size[1], "pixelRatio": 2 if has_fingers else 1}
         metrics |= {"touch": has_fingers, "mobile": has_fingers}
         options.add_experimental_option("mobileEmulation", {"deviceMetrics": metrics})
-        self.driver, self.room, self.has_fingers = (
-            webdriver.Chrome(options=options),
-            room,
-            has_fingers,
-        )
+        self.driver = webdriver.Chrome(options=options)
+        self.room, self.has_fingers = room, has_fingers
         self.driver.set_script_timeout(needs.PATIENCE)
         self.go(after)
 
@@ -61,12 +58,8 @@ class Page:
         return self.js(f"return {value}")
 
     def wait(self, condition):
-        end = time.monotonic() + needs.PATIENCE
-        while not (found := self.now(condition)):
-            if time.monotonic() > end:
-                raise TimeoutError(f"{condition} did not come: {self.now('notes')}")
-            time.sleep(0.02)
-        return found
+        waits = WebDriverWait(self.driver, needs.PATIENCE, 0.02)
+        return waits.until(lambda _: self.now(condition), f"{condition} did not come")
 
     def choose(self, *events, **values):
         """Sets controls, with these events."""
@@ -133,12 +126,8 @@ class Page:
         """The file that a button saves."""
         old = set(self.room.iterdir())
         self.click(button)
-        for _ in range(20 * needs.PATIENCE):
-            for file in set(self.room.glob(f"*{suffix}")) - old:
-                if file.stat().st_size:
-                    return file.read_bytes()
-            time.sleep(0.05)
-        raise TimeoutError(f"{button} saved nothing")
+        new = lambda _: {it for it in self.room.glob(f"*{suffix}") if it.stat().st_size} - old
+        return WebDriverWait(self.driver, needs.PATIENCE).until(new).pop().read_bytes()
 
     def open(self, text):
         file = self.room / "given.toml"

@@ -104,20 +104,13 @@ REFUSED = """\
 1 numbers --table empty.toml --length 9 | empty.toml has no particle
 1 numbers --table cut --length 9 --scene a.toml --block 11 9 | cut: this is no whole table
 1 picture speed a.png less --scene a.toml | less: 
-1 picture particles a.png table --scene a.toml --block 11 9 | no picture of 'particles'
-1 draw discs --disc 64 0 1 | 0 to 63
 1 draw blocks --block 60 0 5 1 | a block leaves
-1 draw nozzle --length 65 | 65
-1 draw polygons --polygon 1 2 3 4 | not [(1.0, 2.0), (3.0, 4.0)]
 1 picture speed a.png broken.npz | broken.npz: this is no whole .npz file
-1 draw bitmap no.png | no.png
-1 draw blocks --filling 0.8 --wind 0.25 | velocity
 1 draw blocks --width 65536 --height 512 --wind 0.1 | 67108864
 1 over-seeds --generations 1 --drawn discs --wind 0.95 | velocity
 1 over-seeds later.toml --generations 1 | `cells`
 1 long-run a.toml 10 4 no/kept | no/kept
 1 resume a.toml table | printed cells
-1 drive a.toml 20 10 --force 2 | particles to turn
 """.splitlines()
 REFUSED += [f"2 {words} --colour | fhpgas-tools: " for words in COMMANDS]
 

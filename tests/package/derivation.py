@@ -63,8 +63,7 @@ def staggered_of(number):
     return np.where(np.arange(number) < 6, (-1.0) ** np.arange(number), 0)
 
 
-@pytest.mark.parametrize("d", FILLINGS)
-def test_sums(d):
+def test_sums():
     """The sums over the directions at the top of the page."""
     is_close([(X**2).sum(), (Y**2).sum(), X @ Y, (X**2) @ Y**2], [3, 3, 0, 3 / 4])
 
@@ -73,10 +72,10 @@ def test_sums(d):
 def test_shares(d):
     """2. What a collision undoes: shear, staggered, chiral, and what is conserved."""
     collide = lambda n, side="seeded": boltzmann.collision_matrix("fhp1", d, side) @ n
-    shear, turned = np.array([1, -1 / 2, -1 / 2] * 2), np.exp(2j * np.pi / 3 * np.arange(6))
+    shear, rotated = np.array([1, -1 / 2, -1 / 2] * 2), np.exp(2j * np.pi / 3 * np.arange(6))
     is_close(collide(shear), -share(d) * shear)
     is_close(collide(STAGGERED), -staggered_share(d) * STAGGERED)
-    is_close(collide(turned, "left"), -d * (1 - d) ** 3 * (3 + 1j * 3**0.5) * turned)
+    is_close(collide(rotated, "left"), -d * (1 - d) ** 3 * (3 + 1j * 3**0.5) * rotated)
     for conserved in np.ones(6), X, Y:
         is_close(collide(conserved), 0)
     left = 1 - np.array([0, 0, 0, share(d), share(d), staggered_share(d)])
@@ -244,8 +243,8 @@ def test_pairs(d):
     is_close(abs(found[1][1]).sum(), abs(made).sum())
     is_close(found[1][0], (1 - share(d)) * shear)
     is_close(found[2][0], (1 - share(d)) ** 2 * shear)
-    turn = angle[:, None] - angle
-    left = np.eye(6) - share(d) / 3 * np.cos(2 * turn) - staggered_share(d) / 6 * np.cos(3 * turn)
+    apart = angle[:, None] - angle
+    left = np.eye(6) - share(d) / 3 * np.cos(2 * apart) - staggered_share(d) / 6 * np.cos(3 * apart)
     again = np.zeros((6, 6))
     for a, b, k, l in np.ndindex(6, 6, 6, 6):
         if k != l and not (steps[a] + steps[k] - steps[b] - steps[l]).any():

@@ -15,44 +15,13 @@ import numpy as np
 from fhpgas import Size
 from PIL import Image
 
-FACTOR = 0x2360ED051FC65DA44385DF649FCCF645  # of PCG64
-
-
-def raw_bits(seed):
-    """The words of 64 bits of PCG64(seed) by plain integers: M. E. O'Neill's XSL RR 128/64, from the state that SeedSequence mixes."""
-
-    def hashed(value):
-        nonlocal constant
-        value = (value ^ constant) & 0xFFFFFFFF
-        constant = constant * multiplier & 0xFFFFFFFF
-        value = value * constant & 0xFFFFFFFF
-        return value ^ value >> 16
-
-    constant, multiplier = 0x43B0D7E5, 0x931E8875
-    words = [seed >> 32 * k & 0xFFFFFFFF for k in range(4)]
-    pool = [hashed(word) for word in words]
-    for source, to in itertools.permutations(range(4), 2):
-        mixed = 0xCA01F9DD * pool[to] - 0x4973F715 * hashed(pool[source]) & 0xFFFFFFFF
-        pool[to] = mixed ^ mixed >> 16
-    constant, multiplier = 0x8B51F9DD, 0x58F38DED
-    halves = [hashed(pool[k % 4]) for k in range(8)]
-    start, step = (
-        halves[k] << 64 | halves[k + 1] << 96 | halves[k + 2] | halves[k + 3] << 32 for k in (0, 4)
-    )
-    most, step = (1 << 128) - 1, step << 1 | 1
-    state = ((start + step) * FACTOR + step) & most
-    while True:
-        state = state * FACTOR + step & most
-        folded, turn = (state >> 64 ^ state) & (1 << 64) - 1, state >> 122
-        yield (folded >> turn | folded << 64 - turn) & (1 << 64) - 1
-
 
 def plainly_drawn(chances, columns, rows, seed):
     """The states by the rule of `fhpgas.fields.drawn`, cell by cell, for the chances [direction][row]."""
-    words, states = raw_bits(seed), np.zeros((rows, columns), np.uint8)
+    bits, states = np.random.PCG64(seed), np.zeros((rows, columns), np.uint8)
     for y, i in itertools.product(range(rows), range(len(chances))):
-        some = itertools.islice(words, -(-columns // 4))
-        lots = [word >> 16 * k & 0xFFFF for word in some for k in range(4)]
+        words = bits.random_raw(-(-columns // 4)).tolist()
+        lots = [word >> 16 * k & 0xFFFF for word in words for k in range(4)]
         for x in range(columns):
             states[y, x] |= (lots[x] < round(65536 * chances[i][y])) << i
     return states
@@ -73,7 +42,7 @@ def test_an_equilibrium_is_that_of_fermi_and_dirac():
 
 
 def test_a_gas_is_drawn_from_the_raw_bits_of_pcg64():
-    """As plain integers give it, with or without vector instructions, row by row or at once."""
+    """Cell by cell, with or without vector instructions, row by row or at once."""
     seed, shear = (1 << 40) + 5, (0.2, 0.3 * np.cos(np.arange(500) / 9)[:, None], 0.0)
     hashes = []
     for name in GASES:
@@ -139,8 +108,8 @@ def test_discs_have_the_cells_within_their_radius():
     places = (0, 5.5), (7, 11), (22, 7 * ROOT3), (23, 60), (12, math.sqrt(43))
     for gas, (row, radius) in itertools.product(("fhp1", "hpp"), places):
         X, Y = fhpgas.positions(Size(40, 24), gas)
-        turned = (X - X[row, 33] + turn for turn in (-80, -40, 0, 40, 80))
-        apart = np.min([np.hypot(x, Y - Y[row]) for x in turned], 0)
+        shifted = (X - X[row, 33] + lap for lap in (-80, -40, 0, 40, 80))
+        apart = np.min([np.hypot(x, Y - Y[row]) for x in shifted], 0)
         same(fhpgas.disc(Size(40, 24), 33, row, radius, gas), apart <= radius + 1e-9)
 
 

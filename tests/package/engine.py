@@ -1,8 +1,7 @@
-"""Compares the engine in Python's process (python/fhpgas/engine.py with the libraries beside it) with the program, parts of a lattice with
-the whole, and include/fhpgas.h with what the library refuses, with the binding and with the crate."""
+"""Compares the engine in Python's process (python/fhpgas/engine.py with the libraries beside it) with the program, strips of a lattice
+with the whole, and include/fhpgas.h with the binding and with the crate."""
 
 import concurrent.futures
-import copy
 import functools
 import itertools
 import os
@@ -20,7 +19,7 @@ from package_case import PROGRAM, fault
 
 import fhpgas
 import numpy as np
-from engine_calls import HEADER, NAMES, NUMBERS, PLANES, SIDES, Calls, Library, prototypes
+from engine_calls import HEADER, NUMBERS, prototypes
 from fhpgas import engine, planes
 from fhpgas.planes import packed, unpacked
 
@@ -28,7 +27,7 @@ if engine.library() is None:
     pytest.skip("python/fhpgas has no library for this processor", allow_module_level=True)
 GASES = [*fhpgas.GASES.values()]
 CHIRALITIES = "seeded", "left", "right"
-LATTICES, CUTS, REFUSALS = 2000, 3000, 3000
+LATTICES = 2000
 WIDE = (65536, 1), (1, 65536), (4097, 5), (5, 4097), (16384, 3), (1000, 64)
 OTHERS = (needs.ROOT / "docs/LIBRARY.md").read_text().split("## From other languages")[1]
 KINDS = {"u8": "uint8_t", "u32": "uint32_t", "u64": "uint64_t", "i64": "int64_t", "usize": "size_t"}
@@ -114,40 +113,6 @@ def test_the_libraries_have_functions_of_these_crates_and_one_of_the_kit():
         assert {*named} - calls <= own
 
 
-@pytest.mark.parametrize("name", NAMES)
-def test_random_calls(name):
-    """With lawful numbers and lengths and others. What a call returns is the first status, in the order in which the header
-    names what it refuses with, whose rule is broken, and then all arrays are as they were."""
-    library = Library(engine.library()._name)
-    calls = Calls(library, 2, 0.1, range(1, 140), range(1, 140), 2)
-    text = HEADER[: HEADER.index(f"uint32_t fhpgas_{name}(")]
-    order = re.findall(r"Refuses with ([A-Z, ]+)\.", text)[-1].split(", ")
-    assert {status_of(calls, name, order) for _ in range(REFUSALS)} == {"DONE", *order}
-
-
-def status_of(calls, name, order):
-    """The name of the status with which a random call must end, and ends."""
-    words = calls.draw(name)
-    arrays = [word for word in words if isinstance(word, np.ndarray)]
-    before, wanted = copy.deepcopy(arrays), next(filter(calls.wrong.get, order), "DONE")
-    status = calls.library.call(name, *words)
-    assert f"FHPGAS_{wanted} = {status}," in HEADER.replace(" = 8 ", " = 8, "), words
-    if status:
-        np.testing.assert_equal(arrays, before, wanted)
-    return wanted
-
-
-def test_lengths():
-    words, work = engine.library().fhpgas_words, engine.library().fhpgas_work_words
-    widths, heights = (0, 1, 64, 65, 65536, 65537, 2**32 - 1), (0, 1, 3, 65536, 65537)
-    for number, *size in itertools.product((0, 1, 7, 8, 9, 2**32 - 1), widths, heights):
-        lawful = number in PLANES and all(side in SIDES for side in size)
-        wanted = number * -(-size[0] // 64) * size[1] if lawful else 0
-        assert words(number, *size) == wanted, (number, size)
-    for gas, width in ((3, 1), (0, 0), (0, 65537), (2**32 - 1, 64)):
-        assert work(gas, width) == 0, (gas, width)
-
-
 def test_cells_are_those_of_the_program():
     def is_so(case):
         lattice, generations = case
@@ -170,33 +135,6 @@ def test_strips_are_the_whole():
             assert lattice.run(generations, workers) == alone
     assert {call.args[0] for call in pools.call_args_list} == {*range(1, 9)}
     fault("workers is an integer from 1", lattice.run, 1, 0)
-
-
-def test_a_part_draws_the_bits_of_its_place():
-    """Rows that are farther than n from a cut are those of the whole after n generations, and some others are not."""
-    rng, cells, others = np.random.default_rng(3), 0, 0
-    for number in range(CUTS):
-        size = tuple(rng.integers((1, 4), (230, 60)).tolist())
-        whole = drawn(rng, size, GASES[number % len(GASES)], "seeded")
-        n, top = int(rng.integers(1, 9)), 2 * int(rng.integers(size[1] // 2))
-        bottom = int(rng.integers(top, size[1])) + 1
-        part, uncut = slice(top, bottom), whole.run(n, 1).states
-        cut = whole.replace(states=whole.states[part], solid=whole.solid[part])
-        planes = engine.advanced(cut, n, 1, first_row=top)
-        found, wanted = unpacked(planes, size[0]), uncut[part]
-        rows = slice(n * (top > 0), max(0, bottom - top - n * (bottom < size[1])))
-        np.testing.assert_array_equal(found[rows], wanted[rows], str(cut))
-        cells, others = cells + found[rows].size, others + (found != wanted).sum()
-    assert min(cells, others) > 10_000
-    fault("even", lambda: engine.advanced(whole, 1, first_row=1))
-
-
-def test_sums_by_hand():
-    """East and north-east, west, two that cancel out, none in a solid cell, and one at rest."""
-    lattice = fhpgas.Lattice([[3, 8, 9], [0, 0, 64]], [[0, 0, 0], [1, 0, 0]], "fhp-rest")
-    found = engine.sums(lattice, 2, 1).tolist()
-    fluid, particles, momentum = [[2, 1], [1, 1]], [[3, 2], [0, 1]], [[1, 0], [0, 0]]
-    assert found == [fluid, particles, momentum, momentum]
 
 
 def test_sums_are_those_of_the_program():
@@ -239,12 +177,6 @@ def test_measures_need_the_words_alone():
                 later.blocks(None, 1), fhpgas.forces(later) if later.generation else told
     assert (forms["unpacked"].call_count, links.call_count) == (0, 12)
     assert forms["packed"].call_count == 3  # states, solid cells, and the others
-
-
-def test_four_calls_in_threads_have_equal_cells():
-    lattices = [drawn(np.random.default_rng(k), (1000, 300), "fhp-rest") for k in range(4)]
-    alone = [lattice.run(100, 1) for lattice in lattices]
-    assert side_by_side(lambda each: each.run(100, 1), lattices) == alone
 
 
 def test_an_interrupt_comes_between_calls():

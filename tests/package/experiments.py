@@ -6,7 +6,6 @@ import re
 import subprocess
 import sys
 import tempfile
-import warnings
 
 import needs
 import pytest
@@ -121,9 +120,9 @@ def test_slips(chirality, others):
     assert sign * odd > 5 * odd_error or not sign, ("the sign of odd", odd, odd_error)
 
 
-def test_warns():
-    """Viscosities and numbers warn where correlations are large, and only there."""
-    for gas, side, filling, is_warned in (
+@pytest.mark.parametrize(
+    "gas, side, filling, is_warned",
+    (
         ("fhp1", "seeded", 0.1, True),
         ("fhp1", "left", 0.15, True),
         ("fhp1", "right", 0.15, True),
@@ -131,21 +130,14 @@ def test_warns():
         ("fhp1", "seeded", [0.3, 0.05], True),
         ("fhp-rest", "seeded", 0.2, True),
         ("fhp-rest", "seeded", 0.05, False),
-    ):
-        calls = [lambda: theory.viscosity(gas, filling, side)]
-        if isinstance(filling, float):
-            calls.append(lambda: theory.numbers(gas, filling, 0.1, 9, side))
-        for call in calls:
-            with warnings.catch_warnings(record=True) as caught:
-                warnings.simplefilter("always")
-                call()
-            kinds = {each.category for each in caught}
-            assert kinds == ({theory.Correlated} if is_warned else set()), (
-                gas,
-                side,
-                filling,
-                kinds,
-            )
+    ),
+)
+def test_warns(recwarn, gas, side, filling, is_warned):
+    """Viscosities and numbers warn where correlations are large, and only there."""
+    theory.viscosity(gas, filling, side)
+    numbers = isinstance(filling, float) and theory.numbers(gas, filling, 0.1, 9, side)
+    kinds = [it.category for it in recwarn]
+    assert kinds == [theory.Correlated] * is_warned * (1 + bool(numbers))
 
 
 @pytest.mark.parametrize(
@@ -170,16 +162,13 @@ def test_swings(gas):
     edge, angles = 3.628, np.pi / 3 * np.arange(3)  # 2 pi / sqrt 3
     assert len(found) == 4, found
     for x, y in {(0, 0), *zip(edge * np.sin(angles), edge * np.cos(angles))}:
-        assert any(np.hypot(x - s * u, y - s * v) < 0.01 for u, v in found for s in (-1, 1)), (
-            x,
-            y,
-            found,
-        )
+        is_near = (np.hypot(x - s * u, y - s * v) < 0.01 for u, v in found for s in (-1, 1))
+        assert any(is_near), (x, y, found)
 
 
 @pytest.mark.parametrize("gas", FLUIDS)
 def test_forgets(gas):
-    """Entropy rises, falls again to its start if all particles are turned, and if one is not only on a part of the way."""
+    """Entropy rises, falls again to its start if all particles are reversed, and if one is not only on a part of the way."""
     output = printed(f"entropy.py --small --gas {gas}")
     there, back, other = np.array([*map(numbers_of, output.splitlines()[1:12])])[:, 1::2].T
     assert (there == back).all() and there[0] + 0.1 < there[-1], output
@@ -281,13 +270,13 @@ def test_decays_as_published(gas, chirality):
     length, d, wind = 256, 0.2, 0.25
     k, x = 2 * np.pi / length, np.arange(length)
     flow = boltzmann.Flow(gas, np.zeros((2, length)), chirality, has_walls=False)
-    shape, turns, sizes, angles = np.sin(k * x), np.exp(-1j * k * x), [], []
+    shape, wave, sizes, angles = np.sin(k * x), np.exp(-1j * k * x), [], []
     at_rest, carried = flow.at(d, 0, 0.001 * shape), flow.at(d, wind, 0.001 * shape)
     particles = flow.density(at_rest).sum()
     for _ in range(80):
         at_rest, carried = flow.step(at_rest), flow.step(carried)
         sizes.append((flow.velocity(at_rest)[1, 0] * shape).sum())
-        angles.append(np.angle((flow.momentum(carried)[1, 0] * turns).sum()))
+        angles.append(np.angle((flow.momentum(carried)[1, 0] * wave).sum()))
     found, wanted = np.log(sizes[39] / sizes[79]) / 40 / k**2, FORMULAS[gas, chirality](d)
     assert abs(found - wanted) < 0.02 * wanted, (found, wanted)
     assert abs(wanted - theory.viscosity(gas, d, chirality)) < 1e-9, wanted

@@ -45,47 +45,6 @@ class PlainKicks:
         return states
 
 
-class Lines:
-    """East and west of FHP-I filled with d (1 +- s cos(k x) / 10), s a sign for each row and each of
-    its checkerboards, and what is left of this form."""
-
-    def __init__(self, filling, k, size, seed):
-        lots, (columns, rows) = np.random.default_rng((seed, 1)), size
-        signs = np.tile(2 * lots.integers(0, 2, (rows, 2)) - 1, columns // 2)
-        self.form = signs * np.cos(k * np.arange(columns))
-        chances = np.full((6, rows, columns), filling)
-        chances[[0, 3]] *= 1 + 0.1 * np.array([[[1]], [[-1]]]) * self.form
-        filled = [lots.random((rows, columns)) < chance for chance in chances]
-        states = sum(each.astype(np.uint8) << i for i, each in enumerate(filled))
-        self.start = fhpgas.Lattice(states, seed=seed)
-
-    def rate(self, step, count=8):
-        """At which the form fades, after the first quarter of so many steps."""
-        left = []
-        for lattice in self.start.every(step, count):
-            difference = (lattice.states & 1).astype(int) - (lattice.states >> 3 & 1)
-            left.append((np.roll(self.form, lattice.generation % 2, 1) * difference).sum())
-        times = step * np.arange(count + 1)[count // 4 :]
-        return -np.polyfit(times, np.log(left[count // 4 :]), 1)[0]
-
-
-def test_lines_keep_the_difference_of_their_directions():
-    """It fades at m / 3 and spreads by 3 / (2 lambda) - 1/2, or faster, as docs/DERIVATION.md says."""
-    for d, columns, rows in ((0.05, 1024, 1024), (0.1, 512, 1536)):
-        m, shear = 6 * d**2 * (1 - d) ** 2, 3 * d * (1 - d) ** 3
-        rates, k = [], 2 * np.pi / 256
-        for each in (0, k):
-            rate = m / 3 + (3 / (2 * shear) - 1 / 2) * each**2
-            size, step = Size(columns, rows), round(1 / rate / 8)
-            found = [Lines(d, each, size, seed).rate(step) for seed in (1, 2, 3, 4)]
-            rates.append((*fhpgas.mean_and_error(found), rate))
-        (still, error, wanted), (moving, other, faster) = rates
-        assert abs(still - wanted) < 4 * error + 0.05 * wanted
-        assert error < 0.1 * wanted
-        spread = (moving - still) / (faster - wanted)
-        assert 0.6 < spread < 2, spread
-
-
 @pytest.mark.parametrize("side", ("left", "right"))
 @pytest.mark.parametrize("gas", map(fhpgas.gas_named, GASES), ids=GASES)
 def test_collisions_are_those_of_the_program(gas, side):
@@ -172,8 +131,8 @@ def test_a_driven_run_is_repeatable_and_tells_its_force(gas):
         assert mean == pytest.approx(flow, abs=47 / after.particles)
 
 
-def test_a_kick_turns_the_particles_that_its_rule_names():
-    """As a plain second implementation turns them, which owes what a row lacks to the next kick. In a thin gas rows lack particles."""
+def test_a_kick_flips_the_particles_that_its_rule_names():
+    """As a plain second implementation flips them, which owes what a row lacks to the next kick. In a thin gas rows lack particles."""
     ways = "rows", "directions"
     for gas, along, filling in itertools.product(GASES, ways, (0.3, 0.04, 0.01)):
         solid = np.arange(21 * 40).reshape(21, 40) % 3 == 1
@@ -209,19 +168,3 @@ def test_a_force_along_the_directions_changes_each_by_its_velocity():
         flow = fhpgas.boltzmann.Flow("fhp-rest", start.solid[:2, :3])
         gained = flow.forced(flow.at(0.3), force, "directions") - flow.at(0.3)
         same(gained, force * np.reshape(shares, (7, 1, 1)) * np.ones((2, 3)))
-
-
-def test_a_kick_turns_every_place_of_a_row_as_often():
-    row, counts = fhpgas.Lattice(np.full((1, 16), 8)), np.zeros(16, int)
-    for seed in range(1600):
-        counts += next(row.driven(0, 1, force=3 * 2 / 16, seed=seed)).after.states[0] == 1
-    assert counts.sum() == 4800
-    assert abs(counts - 300).max() < 5 * math.sqrt(300 * 13 / 16)
-
-
-@pytest.mark.parametrize("share, every, seed", itertools.product((0.4, 0.5), (1, 4), (1, 2)))
-def test_driven_flows_in_thin_porous_gases_run_to_their_end(share, every, seed):
-    solid = fhpgas.porous(Size(96, 64), share, 3, seed)
-    start = fhpgas.draw_gas(0.1, solid=solid, seed=seed)
-    *_, last = start.driven(120, every, force=0.001, seed=seed)
-    assert last.before.generation == 120

@@ -26,31 +26,21 @@ def statements(tree):
             waiting += ast.iter_child_nodes(node)
 
 
-def modules_of(node, all_modules):
-    """The modules of the package that a statement imports: {name here: module}."""
-    if not isinstance(node, ast.ImportFrom) or node.level != 1:
-        return {}
-    if node.module:
-        return {node.module: node.module}
-    return {it.asname or it.name: it.name for it in node.names if it.name in all_modules}
-
-
 def package():
     """Per module of the package the ones that it imports, and the private names of others that it uses."""
-    trees = {path.stem: ast.parse(path.read_text()) for path in sorted(PACKAGE.glob("*.py"))}
+    texts = {path.stem: path.read_text() for path in sorted(PACKAGE.glob("*.py"))}
     graph, private = {}, []
-    for name, tree in trees.items():
-        here = {}
-        for node in statements(tree):
-            here |= modules_of(node, trees)
+    for name, text in texts.items():
+        here, taken = {}, []
+        for node in statements(ast.parse(text)):
             if isinstance(node, ast.ImportFrom) and node.level == 1:
-                private += [f"{name}: {it.name}" for it in node.names if it.name.startswith("_")]
-        for node in ast.walk(tree):
-            if isinstance(node, ast.Attribute) and isinstance(node.value, ast.Name):
-                is_private = node.attr.startswith("_") and not node.attr.startswith("__")
-                if is_private and node.value.id in here:
-                    private.append(f"{name}: {node.value.id}.{node.attr}")
-        graph[name] = set(here.values())
+                names = {it.asname or it.name: it.name for it in node.names}
+                taken += [it for it in names.values() if it.startswith("_")]
+                of_package = {one: it for one, it in names.items() if it in texts}
+                here |= {node.module: node.module} if node.module else of_package
+        used = re.findall(rf"(?<![.\w])(?:{'|'.join(here)})\._(?!_)\w+", text) if here else []
+        private += [f"{name}: {it}" for it in taken + used]
+        graph[name] = {*here.values()}
     return graph, private
 
 

@@ -107,8 +107,8 @@ bitmap(Size(64, 48), solid, 0)                      the width of a pixel is a nu
 next(start.driven(20))                              either by a force or towards a mean flow
 next(start.driven(20, 7, force=1))                  20 generations are not a multiple of 7
 next(start.driven(20, force=nan))                   a force is a number from -2 to 2, not nan
-next(start.driven(20, force=2))                     particles to turn
-gas(0, size=Size(4, 4)).driven(20, force=1)         no particle that could be turned
+next(start.driven(20, force=2))                     particles to flip
+gas(0, size=Size(4, 4)).driven(20, force=1)         no particle that could be flipped
 start.driven(20, force=1, along="x")                a force acts along one of rows, directions, not 'x'
 film("a.gif", [])                                   a state or more
 strip([])                                           a state or more
@@ -180,7 +180,7 @@ def test_a_lattice_does_not_change_and_is_equal_by_value():
 
 @pytest.mark.parametrize("gas, chirality, size", itertools.product(GASES, CHIRALITIES, SIZES))
 def test_runs_equal_the_program(tmp_path, gas, chirality, size):
-    """Its bytes for a scene written by hand: also in parts, from a file, and in blocks."""
+    """Its bytes for a scene written by hand: also in parts, and from a file."""
     start = wind(size, gas, chirality)
     late = start.run(7)
     assert late.text() == printed(start, "run --generations 7")
@@ -191,12 +191,6 @@ def test_runs_equal_the_program(tmp_path, gas, chirality, size):
     start.save(tmp_path / "start.toml")
     assert fhpgas.Lattice.load(tmp_path / "start.toml") == start
     assert fhpgas.Lattice.load(late.scene()) == late
-    for block in ((7, 5), (64, 47), (1, 1)):
-        sides = "--block-width {} --block-height {}".format(*block)
-        text = printed(start, f"coarse --generations 7 {sides}")
-        table = fhpgas.read_table(text, gas, block, size, 7)
-        assert (start.coarse(7, *block), table) == (late.blocks(*block),) * 2
-        assert late.blocks(*block).text() == text
     whole = (start.coarse(7, None, None), fhpgas.coarse(start.scene(), 7, None, None))
     assert whole == (late.blocks(None, None),) * 2
 

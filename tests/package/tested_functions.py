@@ -40,12 +40,7 @@ def names(node, known, seen=()):
     """The names and attributes, also in texts, of a function and of the ones that it uses."""
     found = set()
     for each in ast.walk(node):
-        if isinstance(each, ast.Attribute):
-            found.add(each.attr)
-        elif isinstance(each, ast.Name):
-            found.add(each.id)
-        elif isinstance(each, ast.Constant) and isinstance(each.value, str):
-            found.add(each.value)
+        found |= {getattr(each, field, None) for field in ("attr", "id", "value")}
     for name in found & known.keys() - {*seen}:
         found |= names(known[name], known, (*seen, name))
     return found

@@ -1,6 +1,6 @@
 """Builds the package's wheels, or takes the one that is named, and the source distribution, installs each into an empty folder outside the
-repository, and runs all commands, and the examples of the docstrings, from there: the wheel for Linux alone, the one without program and
-engine as on other systems. A clone that has a plain build alone is installed as it is, and of two wheels pip must take the proved one."""
+repository, and runs all commands from there: the wheel for Linux alone, the one without program and engine as on other systems. A clone
+that has a plain build alone is installed as it is, and of two wheels pip must take the proved one."""
 
 import ast
 import functools
@@ -46,13 +46,6 @@ long-run scene.toml 4 2 kept.toml | kept.toml: version
 how-long scene.toml 9 --seconds 1 | MLUPS
 """
 ALONE, BUILT = ([line.split(" | ") for line in text[1:-1].split("\n")] for text in (ALONE, BUILT))
-EXAMPLES = """
-import doctest, fhpgas, importlib, numpy, pathlib
-names = {path.stem for path in pathlib.Path(fhpgas.__file__).parent.glob("*.py")} - {"__main__", "tiles"}
-given = {"fhpgas": fhpgas, "np": numpy}
-tried = [doctest.testmod(importlib.import_module(f"fhpgas.{name}"), extraglobs=given) for name in names]
-print(sum(each.attempted for each in tried) > 90, sum(each.failed for each in tried))
-"""
 OLD = "import sys; sys.version_info = (3, 10, 12); sys.argv[0] = {!r}; import fhpgas"
 NOTICES = "LICENSE-MIT", "LICENSE-APACHE", "NOTICES.md"
 SOURCES = "python page docs/NOTICES.md LICENSE-MIT LICENSE-APACHE CITATION.cff MANIFEST.in pyproject.toml setup.py".split()
@@ -118,8 +111,6 @@ def tried(room, is_built):
     assert commands and {*commands} <= {command.split()[0] for command, _ in ALONE + BUILT}
     status, out, err = room.ran("fhpgas", "--version")
     assert out.startswith("fhpgas ") if is_built else (status, err.count("\n")) == (70, 1)
-    if is_built:
-        assert room.ran(sys.executable, "-c", EXAMPLES)[:2] == (0, "True 0\n")
     for first, is_traced in (("-m", False), ("script.py", True)):
         words = sys.executable, "-c", OLD.format(first)
         room.refuses("needs Python 3.11", *words, is_traced=is_traced)

@@ -61,7 +61,7 @@ def test_begins(page):
     first = page.now(look)
     page.wait(f"head.generation > {page.now('head.generation') + 20}")
     assert page.now(look) != first, "the picture moves"
-    # each frame of the worker is painted or waits for its turn
+    # each frame of the worker is painted or waits
     assert page.now("sent === shown.painted + shown.queue.length")
     assert abs(page.now("head.u") - 0.28) < 0.02, "the wind is kept"
     found = page.now("[chosen.tool, $('sentence').textContent.slice(0, 12), notes.length]")
@@ -124,13 +124,13 @@ def edited(page):
     page.choose("change", chirality="right")
     page.wait("head.chirality === 'right'")
     generation, _ = page.pause()
-    # how pairs turn changes in the same cells
+    # how pairs rotate changes in the same cells
     assert generation > 100 and page.now("head.particles") == particles
     return generation, page.saved("save", ".toml"), link, solid
 
 
 def test_edits(page, program):
-    """The program continues the scene of the edits to the page's cells, and then time turns. The address keeps what was drawn."""
+    """The program continues the scene of the edits to the page's cells, and then time is reversed. The address keeps what was drawn."""
     page.go(QUICK)
     first, scene, link, drawn = edited(page)
     page.choose("change", pace="most"), page.click("play")
@@ -149,7 +149,7 @@ def test_edits(page, program):
     page.click("play"), page.wait("head.generation >= 500"), page.choose("change", pace="60/s")
     page.click("turn"), page.click("play")
     page.drag("flip", (60, 60)), page.choose("change", pace="most"), page.click("play")
-    # with one particle turned it does not return
+    # with one particle flipped it does not return
     assert page.wait("head.found !== null && head.found") > 100
     page.go(link)
     assert page.now("solid") == drawn
@@ -195,7 +195,7 @@ def test_cells(page):
     # solid cells are drawn where they are
     assert page.pixel(5, 0) == page.pixel(5.5, 0.866) == SOLID
     page.click("half"), page.wait("motion.phase === 1 && !screen.isScheduled")
-    assert page.pixel(1.5 + 0.15, 0.866 - 0.25) == meets, "half a step shows the pair turned"
+    assert page.pixel(1.5 + 0.15, 0.866 - 0.25) == meets, "half a step shows the pair rotated"
     page.click("link")
     # no link has a scene
     assert page.now("location.hash") == "#opened" or page.wait("location.hash === '#opened'")
@@ -384,7 +384,7 @@ def test_side(tab):
     page.click("bare")
     assert "turn" not in page.now(lost), "which shows the others again"
     page.click("turn")
-    assert page.wait("head.direction < 0 || head.found === 0"), "the gas turns"
+    assert page.wait("head.direction < 0 || head.found === 0"), "time is reversed"
 
 
 MESSAGE = "#scene=a message in the noise&size=256 x 128&pace=most"
@@ -422,11 +422,11 @@ def test_message(tab):
     assert found == [0, 0], "it comes back"
     assert page.wait(f"{CONTRAST} > 60"), "and can be read"
     told = page.now("[$('numbers').children[1].textContent, notes.at(-1)]")
-    # 0 cells differ, and one is to be turned
+    # 0 cells differ, and one is to be flipped
     assert told == ["0of 32,768 cells differ", "Now turn one particle (t), and try again."]
     page.click("again"), page.wait("head.generation === 3000 && head.found === null")
     page.drag("flip", (60, 60)), page.click("turn")
-    assert page.wait("head.found !== null && head.found") > 1000, "with one turned it does not"
+    assert page.wait("head.found !== null && head.found") > 1000, "with one flipped it does not"
     assert abs(page.now(CONTRAST)) < 25, "and cannot be read"
     told = page.now("notes.length")
     page.choose("change", scene="one particle turned, and its cone")

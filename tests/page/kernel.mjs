@@ -1,5 +1,5 @@
-// Compares the page's kernel with the program, bit for bit, and its key stream with RFC 8439: the one in page/fhpgas.html, and, where `make`
-// left page/engine.js, the proved engine.
+// Compares the page's kernel and how it fills areas with the program, bit for bit: the kernel in page/fhpgas.html, and, where `make` left
+// page/engine.js, the proved engine.
 //   node --test tests/page/kernel.mjs        the program is FHPGAS, or ./fhpgas
 import assert from "node:assert/strict";
 import { spawnSync } from "node:child_process";
@@ -9,7 +9,6 @@ import { fileURLToPath } from "node:url";
 import { maker } from "../../page/built.mjs";
 import { Flow } from "../../page/src/flow.js";
 import { GASES, SOLID } from "../../page/src/gases.js";
-import { block } from "../../page/src/keystream.js";
 import { fillStates, printed, readScene, sceneOf } from "../../page/src/scenes.js";
 import { gathered, sumsOf } from "../../page/src/sums.js";
 import { lots } from "../lib/random_numbers.mjs";
@@ -108,31 +107,4 @@ for (const [name, make] of Object.entries(kernels)) test(`the largest size, ${na
   const { calls, number } = make(ALL[0], 1, 1), words = (planes) => [0, planes * 2 ** 26].map(number), none = [0, 0].map(number), LENGTH = 7;
   assert.equal(calls.fhpgas_unpack(1, 65536, 65536, ...words(1), ...none), LENGTH);
   assert.equal(calls.fhpgas_sums(ALL[0].number, 65536, 65536, 1, 1, ...words(1), ...words(ALL[0].directions), ...none), LENGTH);
-});
-
-// RFC 8439: the block of 2.3.2, and the test vectors 1 to 5 of appendix A.1
-const hex = (text) => Uint8Array.from(text.match(/../g), (two) => parseInt(two, 16));
-const zeros = (count) => "00".repeat(count);
-const VECTORS = [
-  ["000102030405060708090a0b0c0d0e0f101112131415161718191a1b1c1d1e1f", 1, "000000090000004a00000000",
-    "10f1e7e4d13b5915500fdd1fa32071c4c7d1f4c733c068030422aa9ac3d46c4ed2826446079faa0914c2d705d98b02a2b5129cd1de164eb9cbd083e8a2503c4e"],
-  [zeros(32), 0, zeros(12),
-    "76b8e0ada0f13d90405d6ae55386bd28bdd219b8a08ded1aa836efcc8b770dc7da41597c5157488d7724e03fb8d84a376a43b8f41518a11cc387b669b2ee6586"],
-  [zeros(32), 1, zeros(12),
-    "9f07e7be5551387a98ba977c732d080dcb0f29a048e3656912c6533e32ee7aed29b721769ce64e43d57133b074d839d531ed1f28510afb45ace10a1f4b794d6f"],
-  [zeros(31) + "01", 1, zeros(12),
-    "3aeb5224ecf849929b9d828db1ced4dd832025e8018b8160b82284f3c949aa5a8eca00bbb4a73bdad192b5c42f73f2fd4e273644c8b36125a64addeb006c13a0"],
-  ["00ff" + zeros(30), 2, zeros(12),
-    "72d54dfbf12ec44b362692df94137f328fea8da73990265ec1bbbea1ae9af0ca13b25aa26cb4a648cb9b9d1be65b2c0924a66c54d545ec1b7374f4872e99f096"],
-  [zeros(32), 0, zeros(11) + "02",
-    "c2c64d378cd536374ae204b9ef933fcd1a8b2288b3dfa49672ab765b54ee27c78a970e0e955c14f3a88e741b97c286f75f8fc299e8148362fa198a39531bed6d"],
-];
-for (const [key, counter, nonce, wanted] of VECTORS) test(`RFC 8439, counter ${counter}`, () => {
-  const state = new Int32Array(16), bytes = new DataView(state.buffer), out = new Int32Array(16);
-  [0x61707865, 0x3320646e, 0x79622d32, 0x6b206574].forEach((word, i) => bytes.setUint32(4 * i, word, true));
-  hex(key).forEach((byte, i) => bytes.setUint8(16 + i, byte));
-  bytes.setUint32(48, counter, true);
-  hex(nonce).forEach((byte, i) => bytes.setUint8(52 + i, byte));
-  block(state, out, 0);
-  assert.equal(Buffer.from(out.buffer).toString("hex"), wanted);
 });

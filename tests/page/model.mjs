@@ -3,7 +3,7 @@
 //   node tests/page/model.mjs [HISTORIES] [RUNS OF NOISE], or node --test tests/page/model.mjs
 //
 // number                        | known from
-// viscosity ν                   | Frisch and others, Complex Systems 1 (1987) 649, as docs/PHYSICS.md has it
+// viscosity ν                   | the package's table of gases, whose formulas tests/package/derivation.py derives
 // factor g, Reynolds, Mach      | docs/EXPERIMENTS.md, the street: another program, in Python
 // Strouhal, its error           | the same; and waves of a known period
 // particles, fluid, u, v, force | the program's own sums of the same cells
@@ -70,7 +70,7 @@ function history(number) {
   assert.equal(flow.totals()[1], particles, `history ${number}: particles`);
   const copy = readScene(sceneOf(flow), 1 << 20), isEqual = (state, at) => state === flow.cells.state(at);
   assert.ok(copy.states.every(isEqual) && copy.generation === flow.generation, `history ${number}: its scene is read back`);
-  flow.turn();
+  flow.reverse();
   if (flow.found === null) flow.advance(flow.generation + 1);
   assert.ok(flow.found === 0 && flow.generation === 0 && flow.cells.differing(first) === 0, `history ${number}: back at its start: ${flow.found} cells differ at ${flow.generation}`);
 }
@@ -125,7 +125,7 @@ function undoing(number) {
     else if (kind === 5 && random.chance() < 0.5) note(act(() => experiment.act("clear", cleared)), true);
     else if (kind === 6) {
       const { direction, isDisturbed } = flow;
-      experiment.turn((one) => one.turn());
+      experiment.reverse((one) => one.reverse());
       if (direction > 0) passes();
       else if (isDisturbed) begun();
     } else if (done.length) {
@@ -144,33 +144,23 @@ test("a way back that was cut", () => {
   flow.history.most = 20000;
   flow.advance(300);
   const { origin: { generation: origin } } = flow.history;
-  flow.turn();
+  flow.reverse();
   flow.advance(1000);
   const isBack = origin > 0 && flow.generation === origin && flow.found === 0;
   assert.ok(isBack && flow.notes.some((note) => note.includes("64 MB")), `a way back that was cut: ${[origin, flow.generation, flow.found]}`);
 });
 
-// One particle turned on the way changes what comes back.
-test("one particle turned on the way back", () => {
-  const flow = flowOf({});
-  flow.advance(200);
-  flow.turn();
-  flipOne(flow, [60, 30]);
-  flow.advance(1000);
-  assert.ok(flow.generation === 0 && flow.found > 100, `one particle turned on the way back: ${flow.found}`);
-});
-
-// -- what is shown of a turn
+// -- what is shown on the way back
 
 const view = { field: "vorticity", block: 8, smooth: 1, span: 300, window: null };
-test("means over time turn with the particles", () => {
+test("means over time are reversed with the particles", () => {
   const flow = flowOf(DISC);
   const watched = new Watched(flow), [u, v] = ["u", "v"].map((part) => () => watched.velocity.mean[part].map((value) => value || 0));
   for (let k = 0; k < 20; k++) (watched.advance(5), watched.frame(view, 5));
   const before = [u(), v(), watched.mean.parts[2].slice()];
-  flow.turn();
+  flow.reverse();
   watched.frame(view, 0);
-  [u(), v(), watched.mean.parts[2]].forEach((after, k) => assert.ok(after.every((value, i) => value === -before[k][i]), "means over time turn with the particles"));
+  [u(), v(), watched.mean.parts[2]].forEach((after, k) => assert.ok(after.every((value, i) => value === -before[k][i]), "means over time are reversed with the particles"));
 });
 test("a cone begins anew", () => {
   const flow = flowOf();
@@ -180,10 +170,10 @@ test("a cone begins anew", () => {
   assert.ok(unlike() > 20, `a cone grows: ${unlike()}`);
   watched.flip(make, [100, 30]);
   assert.equal(unlike(), 1, "a second particle has a cone of its own");
-  [watched.twin] = [null, flow.turn()];
+  [watched.twin] = [null, flow.reverse()];
   watched.renew(make);
   assert.ok(watched.twin === null && flow.notes.at(-1)?.startsWith("On the way back"), "on the way back there is none, and it is said");
-  [watched.twin] = [null, flow.turn()];
+  [watched.twin] = [null, flow.reverse()];
   watched.renew(make);
   assert.ok(unlike() === 1 && flow.notes.at(-1)?.includes("begins anew"), `it begins anew with one cell: ${unlike()}`);
 });
@@ -215,19 +205,19 @@ const channel = [512, 255 * Math.sqrt(0.75)], text = spelled("Hi, Zoë <3 100!")
 test("a text is spelled in the font", () => assert.ok(text === "HI, ZOE ♥ 100!" && refusalOf(text, ...channel) === "", text));
 test("an address keeps a text", () => assert.equal(unsealed(sealed(text)), text));
 test("which nobody reads there", () => assert.ok(![text, "HI", "100"].some((part) => sealed(text).includes(part))));
-const read = (isTurned) => {
+const read = (flips) => {
   const flow = flowOf({ shape: "text", text: "L" });
   assert.equal(flow.generation, 3000, "a message is noise at generation 3,000");
-  const undo = isTurned && flipOne(flow, [60, 30]);
-  if (isTurned > 1) undo();
-  flow.turn();
+  const undo = flips && flipOne(flow, [60, 30]);
+  if (flips > 1) undo();
+  flow.reverse();
   flow.advance(5000);
   return [flow.generation, flow.found];
 };
 test("a message that comes back", () => {
-  assert.ok([0, 2].every((isTurned) => String(read(isTurned)) === "0,0"), "it comes back, also if a turn was undone");
+  assert.ok([0, 2].every((flips) => String(read(flips)) === "0,0"), "it comes back, also if a flip was undone");
   const [generation, found] = read(1);
-  assert.ok(generation === 0 && found > 1000, `with one particle turned first it does not: ${found}`);
+  assert.ok(generation === 0 && found > 1000, `with one particle flipped first it does not: ${found}`);
 });
 test("a broken text is none", () => assert.ok([sealed(text).slice(0, -1), `${sealed(text)}A`, sealed(text).replace(/.$/, (sign) => (sign === "A" ? "B" : "A")), "", "AA", "HELLO"]
   .every((letters) => unsealed(letters) === null)));
@@ -319,7 +309,7 @@ const frameOf = (flow, generations = 1) => new Watched(flow).frame({ field: "spe
 test("the wind after the way back", () => {
   const flow = flowOf(porous), { u } = frameOf(flow, 0);
   flow.drive.keep(0.2);
-  [0, 1].forEach((turn) => (turn && flow.turn(), flow.advance(300)));
+  [0, 1].forEach((isBack) => (isBack && flow.reverse(), flow.advance(300)));
   assert.ok(flow.generation === 0 && flow.direction === 1 && frameOf(flow, 0).u === u, `back at the start u is that of its cells: ${u}`);
 });
 test("the noise", () => {
@@ -338,9 +328,6 @@ test("the front", () => {
   watched.advance(100);
   near("a burst's front runs as fast as sound", frontOf(watched.frame({ field: "density", block: 4, smooth: 2, span: 1, window: null }, 100), 22), Math.SQRT1_2, 0.06);
 });
-isNear("ν of fhp1, seeded", viscosity(GASES.fhp1.fluid, 0.3, "seeded"), 1 / (12 * 0.3 * 0.7 ** 3) - 1 / 8, 1e-12);
-isNear("ν of fhp1, left", viscosity(GASES.fhp1.fluid, 0.3, "left"), 1 / (16 * 0.3 * 0.7 ** 3) - 1 / 8, 1e-12);
-isNear("ν of fhp-rest", viscosity(GASES["fhp-rest"].fluid, 0.2, "seeded"), 1 / (28 * 0.2 * 0.8 ** 3 * (1 - 0.8 / 7)) - 1 / 8, 1e-12);
 const street = { gas: "fhp-rest", directions: 7, fluid: 1000, particles: 1260, u: 0.299, v: 0, chirality: "seeded", fastest: 0.374 };
 const numbers = numbersOf(street, 160);
 isNear("g", numbers.g, 0.455, 0.0005);
@@ -371,11 +358,11 @@ test("the program's sums of the same cells", () => {
   flow.advance(1);
   const frame = frameOf(flow), kicks = Math.round((0.2 * particles - px / 2) / 2);
   assert.ok(frame.fluid === fluid && frame.particles === particles, "fluid and particles");
-  near("u before the turning", frame.u, px / 2 / particles, 1e-9);
+  near("u before the flips", frame.u, px / 2 / particles, 1e-9);
   near("v", frame.v, (py * Math.sqrt(3)) / 2 / particles, 1e-9);
   near("the force", frame.force, (2 * kicks) / fluid, 1e-9);
   near("filling", frame.middle, 0.18, 0.003);
-  flow.turn();
+  flow.reverse();
   near("u on the way back", frameOf(flow, 0).u, -(px + 4 * kicks) / 2 / particles, 1e-9);
   near("blocked part", frame.blockage, 22 / (128 * Math.sqrt(0.75)), 0.02);
 });

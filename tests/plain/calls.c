@@ -7,11 +7,6 @@
 
 #include "../../include/fhpgas.h"
 
-#ifdef _WIN32
-#include <fcntl.h>
-#include <io.h>
-#endif
-
 enum { NUMBERS = 8, ARRAYS = 3 };
 
 struct request {
@@ -46,10 +41,6 @@ static uint64_t answer(const struct request *request, void *const at[ARRAYS]) {
 
 int main(void) {
     struct request request;
-#ifdef _WIN32
-    _setmode(_fileno(stdin), _O_BINARY);
-    _setmode(_fileno(stdout), _O_BINARY);
-#endif
     while (fread(&request, sizeof request, 1, stdin) == 1) {
         void *at[ARRAYS];
         uint64_t returned;

@@ -3,7 +3,6 @@ forms of TOML, and the words of help and usage. Where the proved program is, it 
 
 import ctypes
 import os
-import re
 import signal
 import subprocess
 
@@ -54,11 +53,6 @@ def run(program, *words, text=SCENE, **environment):
 def ended(program, *words, **more):
     done = run(program, *words, **more)
     return done.returncode, done.stdout.decode(), done.stderr.decode()
-
-
-def test_the_program_says_what_it_is():
-    done = run(PLAIN, "--version")
-    assert re.search(rb"^fhpgas [0-9.]+ \(" + BUILD + rb"\)\n$", done.stdout)
 
 
 def test_the_library_says_what_it_is():

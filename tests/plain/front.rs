@@ -1,4 +1,4 @@
-//! Tries the crate `fhpgas` from outside, as safe code: beside a walk from cell to cell, and with random
+//! Tries the crate `fhpgas` from outside, as safe code: by lone particles, in parts, and with random
 //! arguments, of which none may panic. ROUNDS says how many.
 #![forbid(unsafe_code)]
 use fhpgas::{Chirality, Error, Gas, Lattice, Sums};
@@ -40,42 +40,6 @@ fn next(gas: Gas, direction: u32, x: i64, y: i64) -> (i64, i64) {
         (_, 6) => (x, y),
         _ => [(x + 1, y), (x + odd, y - 1), (x - 1 + odd, y - 1), (x - 1, y), (x - 1 + odd, y + 1), (x + odd, y + 1)]
             [direction as usize],
-    }
-}
-
-/// A generation of HPP, cell by cell: head-on pairs turn by a right angle, then each particle moves, or
-/// turns back in its cell where a wall or a solid cell is.
-fn hpp_generation(width: i64, height: i64, states: &[u8], solid: &[u8]) -> Vec<u8> {
-    let mut after = vec![0; states.len()];
-    for (i, &state) in states.iter().enumerate() {
-        let (x, y) = (i as i64 % width, i as i64 / width);
-        let state = match state { 0b0101 => 0b1010, 0b1010 => 0b0101, other => other };
-        for direction in (0..4).filter(|k| state >> k & 1 == 1) {
-            let (to, row) = next(Gas::Hpp, direction, x, y);
-            let there = (row * width + to.rem_euclid(width)) as usize;
-            if row < 0 || row >= height || solid[there] == 1 {
-                after[i] |= 1 << ((direction + 2) % 4);
-            } else {
-                after[there] |= 1 << direction;
-            }
-        }
-    }
-    after
-}
-
-#[test]
-fn hpp_is_as_cell_by_cell() {
-    let mut random = Random(1);
-    for _ in 0..60 {
-        let (width, height) = (1 + random.below(140) as u32, 1 + random.below(12) as u32);
-        let (mut states, solid) = random.cells(Gas::Hpp, width as usize * height as usize);
-        let chirality = random.chirality();
-        let mut lattice = Lattice::new(Gas::Hpp, chirality, (width, height), &states, &solid).unwrap();
-        for generation in 1..9 {
-            lattice.run(1).unwrap();
-            states = hpp_generation(width.into(), height.into(), &states, &solid);
-            assert_eq!((lattice.states(), lattice.generation()), (states.clone(), generation));
-        }
     }
 }
 

@@ -1,7 +1,8 @@
 """Compares the built program with C programs that compute the same lattices in other ways, on twenty
 random maps with obstacles: oracles/bytes.c, cell by cell from tables, for every gas, and
 oracles/bands.c, on bit planes cut into bands, for FHP-I. The gases, chiralities, sizes, first
-generations and plans take turns, and seeds are fixed. All must print the same bytes."""
+generations and plans take turns, and seeds are fixed. Then the longest line, on an area. All must
+print the same bytes."""
 
 import itertools
 import random
@@ -65,3 +66,19 @@ def test_map(program, by_bytes, by_bands, number):
     if gas == "fhp1":
         is_alike = needs.printed([by_bands, generations, 3, word], start) == ours
         assert is_alike, f"by bands: {width} x {height}, {generations} generations, {plan}"
+
+
+@pytest.mark.alone
+@pytest.mark.parametrize("threads", [64, 7])
+def test_long_line(program, memory, by_bytes, threads):
+    """6,000 rows go through 64 workers with 1,024 places in three passes, thousands of them at once."""
+    memory(4)
+    area = (
+        b'version = 2\ngas = "fhp1"\nseed = 9\nwidth = 70\nheight = 6000\nrate = 300\n'
+        b"solid = [[60, 500, 10, 9], [0, 5990, 3, 10]]\n"
+    )
+    start, plan = needs.printed([program, "run", "--generations", 0], area), ["--stages", 64]
+    plan += ["--capacity", 1024, "--threads", threads]
+    ours = needs.printed([program, "run", "--generations", 150, *plan], area)
+    is_alike = needs.printed([by_bytes, 150, 9, "fhp1"], start) == ours
+    assert is_alike  # and pytest shows no difference of so many lines

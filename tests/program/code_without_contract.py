@@ -59,23 +59,14 @@ HELD = {  # all other files below the program have none of them
 }
 
 
-def imports(tree, path=""):
-    """What the names of a `use` mean: {local name: its whole path}. A part of the tree is a path, and braces or another name after it."""
-    found, tree = {}, tree.strip()
-    head, _, inside = tree.partition("{")
-    if inside:
-        depth, part = 0, ""
-        for letter in inside[:-1] + ",":
-            depth += {"{": 1, "}": -1}.get(letter, 0)
-            if letter == "," and depth == 0:
-                found |= imports(part, path + head) if part.strip() else {}
-                part = ""
-            else:
-                part += letter
-        return found
-    whole, _, name = (path + tree).partition(" as ")
-    whole = whole.removesuffix("::self")
-    return {name.strip() or whole.split("::")[-1]: whole}
+def imports(tree):
+    """What the names of a `use` mean: {local name: its whole path}."""
+    head, _, inside = tree.strip().removesuffix("}").partition("{")
+    assert "{" not in inside, "braces in braces are not read"
+    parts = [head + part.strip() for part in inside.split(",") if part.strip()] or [head]
+    pairs = (part.partition(" as ")[::2] for part in parts)
+    paths = ((path.removesuffix("::self"), name.strip()) for path, name in pairs)
+    return {name or path.split("::")[-1]: path for path, name in paths}
 
 
 def spelled_out(text):

@@ -1,6 +1,5 @@
 """Runs the built program on the cases of tables: words, scenes and streams of every kind, with what
-it must print, on standard output and on standard error, and the status that it must end with. The
-cells of scenes with many rectangles come from a second reading of the text."""
+it must print, on standard output and on standard error, and the status that it must end with."""
 
 import itertools
 import re
@@ -10,10 +9,8 @@ import subprocess
 import examples
 import needs
 import pytest
-import second_reader
 
 SOMETHING = re.compile(r"(?s).+")
-MOST_CELLS = 400_000  # that the second reader takes
 EXAMPLES = examples.cases()
 
 # What `check` reads next to a scene that is refused, and the lines that refuse it.
@@ -187,16 +184,6 @@ CELLS = {
     row_length(0): "fhp1 é.|fhp1 010|fhp1 ",
 }
 
-# Rectangles that overlap, and their seams at whole words of 64 columns and whole blocks of 256.
-RECTANGLES = [
-    "width = 200\nheight = 6\nsolid = [[3, 1, 190, 2], [64, 0, 64, 4], [100, 2, 100, 3], [0, 4, 63, 1], [127, 0, 2, 1], [199, 0, 1, 6], "
-    "[3, 1, 190, 1], [10, 3, 20, 1]]",
-    "width = 65536\nheight = 6\nsolid = [[0, 0, 65536, 1], [63, 1, 1, 1], [65, 1, 1, 2], [128, 1, 64, 1], [256, 1, 65, 1], [447, 1, 65, 1], "
-    "[4095, 1, 1, 1], [4097, 1, 4095, 1], [65535, 1, 1, 1], [4096, 2, 4096, 2], [8192, 2, 4096, 1], [12289, 2, 8190, 1], "
-    "[32767, 2, 8194, 1], [61440, 2, 4096, 1], [1, 3, 65534, 1], [0, 5, 4096, 1], [4160, 5, 61376, 1]]",
-]
-WIDTHS = [1, 63, 64, 65, 127, 128, 4095, 4096, 4097, 4160, 8191, 8192, 65535, 65536]
-
 
 def scenes():
     """The texts of the tables, and what refuses them."""
@@ -366,23 +353,6 @@ def test_check(check, text, line):
     check(["check"], text, *((1, "", f"{line}\n") if line else (0, re.compile("gas .*\n"), "")))
 
 
-@pytest.mark.parametrize("keys", RECTANGLES, ids=["200 columns", "65536 columns"])
-def test_rectangles(check, keys):
-    text = f'version = 2\ngas = "hpp"\n{keys}'
-    lattice = second_reader.read(text.encode(), MOST_CELLS)
-    check(["check"], text, 0, lattice.check_line(), "")
-    check(["run", "--generations", "0"], text, 0, lattice.printed(), "")
-
-
-@pytest.mark.parametrize("width", WIDTHS)
-def test_rectangle_over_all(check, width):
-    text = f'version = 2\ngas = "fhp1"\nrate = 1000\nwidth = {width}\nheight = 2\nsolid = [[0, 0, {width}, 2]]'
-    line = f"gas fhp1 width {width} height 2 solid {2 * width} particles 0\n"
-    check(["check"], text, 0, line, "")
-    cells = "generation 0 particles 0\n" + ("##" * width + "\n") * 2
-    check(["run", "--generations", "0"], text, 0, cells, "")
-
-
 @each("words, scene, out", itertools.chain(many_turns(), lone_particles()))
 def test_lone_particle(check, words, scene, out):
     check(words, scene, 0, out, "")
@@ -396,15 +366,6 @@ def test_lone_particle(check, words, scene, out):
 def test_example(check, name, words):
     _, scene, wanted = EXAMPLES[name]
     check(words, scene, 0, wanted, "")
-
-
-@pytest.mark.parametrize("path", (needs.ROOT / "scenes").glob("*.toml"), ids=lambda path: path.stem)
-def test_stored_scene(check, path):
-    """Every scene of scenes/ runs, from its generation."""
-    scene = path.read_text()
-    first = int((re.findall(r"^generation = (\d+)$", scene, re.M) or ["0"])[0])
-    wanted = re.compile(rf"(?s)generation {first + 3} particles .+")
-    check(["run", "--generations", "3"], scene, 0, wanted, "")
 
 
 def test_version(check, program):

@@ -1,5 +1,5 @@
 """Runs the built program on large texts of many kinds, under a small stack, and prints its answer,
-seconds and peak memory. Then the largest area, and the widest rows through the longest line, if memory allows.
+seconds and peak memory. Then the largest area, if memory allows.
 
 Fails if an answer is not as docs/FORMATS.md says. The times and sizes are only shown, with -s.
 --mebibytes M makes larger texts. The program reads at most 64."""
@@ -50,28 +50,14 @@ def areas(size):
     several = "".join(rectangle(at_random) for _ in range(2000))
     half = repeated(AREA + "solid = [", f"[0,0,{SIDE // 2},{SIDE}],", "]\n", size // 2)
     wide = 'version = 2\ngas = "fhp1"\nwidth = 65536\nheight = 2\nrate = 1000\nsolid = ['
-
-    def listed(before, item, least=0):
-        return repeated(before, item, "]\n", max(size, least))
-
-    def rectangles(width, height):
-        return listed(AREA + "solid = [", f"[0,0,{width},{height}],"), SHOWN % (width * height, 0)
-
-    again = listed(AREA + "particles = [", "[0,0,1],")
-    yield "one particle, again and again", again, SHOWN % (0, 1)
-    yield "particles in a column of solid cells", listed(wall, "[0,0,1],"), RANGE
-    all_over = listed(AREA + "particles = [", column, 2 * len(column))
-    yield "particles all over the area", all_over, SHOWN % (0, SIDE)
-    yield "rectangles of one cell", *rectangles(1, 1)
-    yield "rectangles of a row", *rectangles(SIDE, 1)
-    yield "rectangles of a column", *rectangles(1, SIDE)
-    yield "rectangles of the area", *rectangles(SIDE, SIDE)
-    shuffled = listed(AREA + "solid = [[0,0,4096,4096],", several)
-    yield "rectangles at random", shuffled, SHOWN % (SIDE * SIDE, 0)
+    yield "particles in a column of solid cells", repeated(wall, "[0,0,1],", "]\n", size), RANGE
+    over = repeated(AREA + "solid = [[0,0,4096,4096],", several, "]\n", size)
+    yield "rectangles at random", over, SHOWN % (SIDE * SIDE, 0)
     half += repeated("particles = [", column, "]\n", max(size // 2, 2 * len(column)))
     yield "half rectangles, half particles", half, SHOWN % (SIDE * SIDE // 2, SIDE)
     shown = "gas fhp1 width 65536 height 2 solid 131070 particles 12"
-    yield "rectangles across the widest rows", listed(wide, "[0,0,65535,2],"), shown
+    across = repeated(wide, "[0,0,65535,2],", "]\n", size)
+    yield "rectangles across the widest rows", across, shown
 
 
 def maps(size):
@@ -127,16 +113,6 @@ def texts(size):
 def is_plain(program):
     """Whether plain Rust built the program."""
     return "not proved" in needs.printed([program, "--version"], b"").decode()
-
-
-def test_longest_line(program, memory):
-    """64 workers with 1,024 places per belt print what one worker prints pass by pass, on the widest rows."""
-    memory(4)
-    scene = f'version = 2\ngas = "fhp1"\nseed = 5\nwidth = {MOST_SIDE}\nheight = 64\nrate = 300\nsolid = [[65000, 10, 536, 9], [0, 12, 9, 30]]\n'
-    words = [program, "run", "--generations", "70"]
-    plans = ["--stages", "64", "--capacity", "1024"], ["--stages", "1", "--capacity", "1"]
-    longest, shortest = (needs.printed([*words, *plan], scene.encode()) for plan in plans)
-    assert longest == shortest and longest.startswith(b"generation 70 particles ")
 
 
 def answer(program, path):

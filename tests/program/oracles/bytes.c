@@ -1,9 +1,7 @@
 /* The three gases in plain C as one would write them in an afternoon, to compare the speed and the answers of fhpgas with: a byte a cell, a
-   table of collisions, two lattices, one thread. It reads cells as `fhpgas run` prints them, or fills an area without obstacles itself.
-   It computes G generations and prints the cells; on standard error the seconds that the generations took. CHIRALITY is left, right or a
-   seed, RATE the filling in thousandths.
-   Usage: bytes G [CHIRALITY [GAS]] < CELLS
-          bytes G CHIRALITY GAS WIDTH HEIGHT RATE SEED */
+   table of collisions, two lattices, one thread. It reads cells as `fhpgas run` prints them, computes G generations and prints the cells; on
+   standard error the seconds that the generations took. CHIRALITY is left, right or a seed.
+   Usage: bytes G [CHIRALITY [GAS]] < CELLS */
 #include "cells.h"
 #include "key_stream.h"
 
@@ -79,29 +77,13 @@ FOR_EACH_GAS void compute(const struct gas *gas, struct cells *cells, long gener
     }
 }
 
-/* An area in which each direction of each cell, in turn, takes a word of the direction's own stream. */
-static struct cells filled(const struct gas *gas, int width, int height, uint32_t rate, uint64_t seed) {
-    size_t size = (size_t)width * (size_t)height;
-    struct cells cells = {width, height, 0, zeros(size)};
-    struct key_stream *key = new_key_stream(seed);
-    for (int i = 0; i < gas->directions; i++) {
-        start_stream(key, (1ull << 63) + (uint64_t)i, 0);
-        for (size_t cell = 0; cell < size; cell++) {
-            if (key->place == key->end) make_chunk(key);
-            if (key->words[key->place++] % 1000 < rate) cells.states[cell] |= (unsigned char)(1 << i);
-        }
-    }
-    return cells;
-}
-
 int main(int count, char **given) {
-    if (count < 2 || (count > 4 && count != 8)) stop("usage: bytes G [CHIRALITY [GAS [WIDTH HEIGHT RATE SEED]]]");
+    if (count < 2 || count > 4) stop("usage: bytes G [CHIRALITY [GAS]] < CELLS");
     long generations = atol(given[1]);
     struct chirality chirality = chirality_of(given[2]);
     const char *name = count > 3 ? given[3] : fhp1.name;
     const struct gas *gas = !strcmp(name, hpp.name) ? &hpp : !strcmp(name, fhp_rest.name) ? &fhp_rest : &fhp1;
-    struct cells cells = count < 8 ? read_cells()
-        : filled(gas, atoi(given[4]), atoi(given[5]), (uint32_t)atoi(given[6]), strtoull(given[7], NULL, 10));
+    struct cells cells = read_cells();
     make_collisions(gas);
     double begun = seconds_now();
     if (gas == &hpp) compute(&hpp, &cells, generations, chirality);
