@@ -134,7 +134,7 @@ def picture(asked: argparse.Namespace) -> None:
 
 def film(asked: argparse.Namespace) -> None:
     """Runs a scene and writes a film. It shows every so many generations, from the start on. A flow
-    is kept at each frame by turning particles."""
+    is kept at each frame by flipping particles."""
     count, options = steps(asked.until, asked.every), looks(asked)
     how = given(force=asked.force, flow=asked.flow)
     if len(how) > 1:
@@ -207,7 +207,7 @@ def over_time(asked: argparse.Namespace) -> None:
 
 
 def drive(asked: argparse.Namespace) -> None:
-    """Runs a scene under a force or towards a mean flow. Particles turn from west to east between
+    """Runs a scene under a force or towards a mean flow. Particles flip from west to east between
     short runs. Prints how fast the gas flows and which force acts until the next point."""
     steps(asked.generations, asked.every)
     if (asked.flow is None) == (asked.force is None):
@@ -295,7 +295,7 @@ WORDS: dict[str, dict[str, Any]] = {
     "last": word("the last generation", MANY, metavar="LAST"),
     "step": word(kind=STEP, metavar="STEP"),
     "every": word(kind=STEP, metavar="EVERY"),
-    "--along": word("turns W to E, or NW to NE and SW to SE too", str, "rows", choices=DRIVES),
+    "--along": word("flips W to E, or NW to NE and SW to SE too", str, "rows", choices=DRIVES),
     "--block": word("of a block; default 8 9, but a table needs its own", whole(1, 4096), **SIDES),
     "--capacity": word("rows per belt", whole(1, 1024)),
     "--chirality": drawing.WORDS["--chirality"],
@@ -314,7 +314,7 @@ WORDS: dict[str, dict[str, Any]] = {
     "--no-browser": {"action": "store_true", "help": "only print the path"},
     "--scene": SCENE | {"help": "the scene of the run, for its gas and its size"},
     "--seconds": word("the least that is timed", whole(1, 3600), 2),
-    "--seed": word("of the particles that are turned", whole(0, MOST_SEED), 0),
+    "--seed": word("of the particles that are flipped", whole(0, MOST_SEED), 0),
     "--seeds": word(kind=whole(2, 10**6), default=8),
     "--size": word("of the lattice", whole(1, 65536), **SIDES),
     "--smooth": word("width of a Gaussian in blocks", number(0, 100), 0, metavar="BLOCKS"),

@@ -8,10 +8,11 @@ from typing import Any, ClassVar
 import numpy as np
 
 from . import forms
+from .arrays import Array, Floats, Ints, Sums, array_of, read_only
 from .fault import Fault, library, real
 from .files import Path, read_bytes, write_whole
 from .fields import AnySize, Size, number_of, pair_checked, size_of
-from .gases import AnyGas, Array, Floats, Gas, Ints, Sums, array_of, gas_named, read_only
+from .gases import AnyGas, Gas, gas_named
 from .limits import Quantity
 from .planes import Sized
 from .scenes import naming

@@ -16,11 +16,11 @@ from typing import Any
 import numpy as np
 from numpy.typing import NDArray
 
+from .arrays import Floats, Ints, array_of
 from .fault import Fault, integer, real
 from .fields import equilibrium
 from .gas_table import CHIRALITIES, TRIPLES
-from .gases import STATES, TOO_FEW, AnyGas, Chirality, Floats, Gas, Ints, array_of, chirality_named
-from .gases import gas_named
+from .gases import STATES, TOO_FEW, AnyGas, Chirality, Gas, chirality_named, gas_named
 
 
 def collision_matrix(gas: AnyGas, filling: Any, chirality: Chirality = "seeded") -> Floats:
@@ -111,9 +111,9 @@ def _pair_collision(gas: Gas, d: float, chirality: Chirality, triples: float) ->
     i, j = np.triu_indices(gas.directions, 1)
     moments = np.hstack((deviations, deviations[:, i] * deviations[:, j]))
     tables = [gas.collisions(side)[states] for side in CHIRALITIES[chirality_named(chirality)]]
-    turned = np.mean([moments[table] for table in tables], 0)
+    rotated = np.mean([moments[table] for table in tables], 0)
     collide = np.where(np.isin(states & 63, TRIPLES), triples, 1.0)[:, None]
-    after = collide * turned + (1 - collide) * moments
+    after = collide * rotated + (1 - collide) * moments
     chance = np.where(gas.bits[states], d, 1 - d).prod(1, keepdims=True)
     variances = (d * (1 - d)) ** np.repeat([1, 2], [gas.directions, len(i)])
     return np.asarray(after.T @ (chance * moments / variances))
@@ -234,9 +234,9 @@ class Flow:
         the rows or the directions as `fhpgas.driven` does. A chance that would leave 0 to 1 raises
         a Fault."""
         after = chances.copy()
-        for east, west, turns in self.gas.turns(along):
-            after[east] += force * turns * ~self.solid
-            after[west] -= force * turns * ~self.solid
+        for east, west, flips in self.gas.turns(along):
+            after[east] += force * flips * ~self.solid
+            after[west] -= force * flips * ~self.solid
         if after.min() < 0 or after.max() > 1:
             y, x = np.argwhere(((after < 0) | (after > 1)).any(0))[0]
             raise Fault(f"row {y} column {x} has {TOO_FEW}")

@@ -5,8 +5,8 @@ from typing import Any
 
 import numpy as np
 
+from .arrays import Mask, States
 from .fault import Fault
-from .gases import Mask, States
 
 SOLID = 0x80  # in a byte per cell: a solid cell. Any other cell's byte is its state
 NO_CELL = 0xFF

@@ -1,7 +1,7 @@
-"""Driven flows: the engine has no force, so between short runs some particles are turned to the
+"""Driven flows: the engine has no force, so between short runs some particles are flipped to the
 east.
 
-A particle that is turned adds twice its momentum eastwards. Which ones are turned is drawn at
+A particle that is flipped adds twice its momentum eastwards. Which ones are flipped is drawn at
 random from a seed, in proportion to the fluid cells of the rows. A driven run is therefore
 repeatable, and the force that acted is known exactly."""
 from __future__ import annotations
@@ -11,9 +11,10 @@ from typing import TYPE_CHECKING, NamedTuple
 
 import numpy as np
 
+from .arrays import Floats, Ints, States
 from .fault import Fault, integer, real, seed_of
 from .fields import lots_of
-from .gases import TOO_FEW, Floats, Ints, States
+from .gases import TOO_FEW
 from .planes import Cells
 from .progress import counted
 
@@ -27,9 +28,9 @@ class Point(NamedTuple):
     Attributes
     ----------
     before, after : Lattice
-        Before and after particles were turned.
+        Before and after particles were flipped.
     turned : int
-        How many were turned to the east, negative if to the west.
+        How many were flipped to the east, negative if to the west.
     force : float
         The momentum per fluid cell and generation that these add until the next point.
     velocity : float
@@ -57,7 +58,7 @@ def driven(
 ) -> Iterator[Point]:
     """The points of a driven run: at its start, and after every `every` generations.
 
-    A row that has too few particles to turn owes the rest to the next point. Between points the
+    A row that has too few particles to flip owes the rest to the next point. Between points the
     walls act and the drive does not, so the flow near walls and in narrow gaps depends on `every`.
     For a profile, a slip or a permeability take 1 to 4. In a porous medium kicks at even intervals
     add up in pockets one cell wide.
@@ -75,11 +76,11 @@ def driven(
     flow : float, optional
         Or the mean velocity of the particles, -1 to 1, which is restored at each point.
     along : {"rows", "directions"}, optional
-        Which particles turn. "rows" turns W to E. "directions" is a force along every c_i, as of a
+        Which particles flip. "rows" flips W to E. "directions" is a force along every c_i, as of a
         pressure gradient or in a lattice Boltzmann code: two thirds of the momentum by W to E, and
         a sixth each by NW to NE and SW to SE. The slip at walls differs (`theory.slip`).
     seed : int or numpy.random.SeedSequence, optional
-        Of the particles that are turned. It is another stream than `draw_gas` has of the same seed.
+        Of the flipped particles. It is another stream than `draw_gas` has of the same seed.
     workers, progress : optional
         As in `Lattice.run`.
 
@@ -91,7 +92,7 @@ def driven(
     ------
     Fault
         At the call if an argument does not fit. At a point if the rows owe together more than a
-        turn each and half a kick, and more than at the point before, so that the force does not
+        flip each and half a kick, and more than at the point before, so that the force does not
         act.
 
     Examples
@@ -108,7 +109,7 @@ def driven(
     if integer("the number of generations", generations) % every:
         raise Fault(f"{generations} generations are not a multiple of {every}, those of a step")
     if not lattice.particles:
-        raise Fault("the lattice has no particle that could be turned")
+        raise Fault("the lattice has no particle that could be flipped")
     if force is not None:
         force = real("a force", force, -2, 2) * every * lattice.fluid
     else:
@@ -122,16 +123,16 @@ def driven(
             before = after.run(every, workers) if done else after
             momentum = float(before.momentum[0])
             wanted = (flow or 0) * before.particles - momentum if force is None else force
-            states, turned, given = kicks.kicked(before.states, wanted, force is not None)
+            states, flipped, given = kicks.kicked(before.states, wanted, force is not None)
             after = before._of(cells=Cells(before.gas, states))
             acts, velocity = given / every / before.fluid, (momentum + given / 2) / before.particles
-            yield Point(before, after, turned, acts, velocity)
+            yield Point(before, after, flipped, acts, velocity)
 
     return points()
 
 
 class _Kicks:
-    """What turns the particles of a lattice, and what its rows are owed: the turns [pair, row] that
+    """What flips the particles of a lattice, and what its rows are owed: the flips [pair, row] that
     rounding or a lack of particles left."""
 
     def __init__(self, lattice: Lattice, along: str, seed: int):
@@ -149,28 +150,28 @@ class _Kicks:
         return (self.lots.random_raw(number) >> np.uint64(11)) * 2.0**-53
 
     def kicked(self, states: States, wanted: float, keeps_rest: bool) -> tuple[States, int, float]:
-        """The states after a kick of about this momentum, how many particles it turned, and its
+        """The states after a kick of about this momentum, how many particles it flipped, and its
         momentum. What is left is kept for the next kick, or if that asks for it itself only what
         rounding left."""
-        after, turned = states.copy(), []
-        for owed, (east, west, turns) in zip(self.owed, self.pairs):
-            owed += wanted * turns * self.shares
-            numbers = self._turn(after, np.rint(owed).astype(int), 1 << east, 1 << west)
+        after, flipped = states.copy(), []
+        for owed, (east, west, flips) in zip(self.owed, self.pairs):
+            owed += wanted * flips * self.shares
+            numbers = self._flip(after, np.rint(owed).astype(int), 1 << east, 1 << west)
             owed -= numbers
-            turned.append(int(numbers.sum()))
+            flipped.append(int(numbers.sum()))
         debt = float(np.maximum(np.abs(self.owed) - 0.5, 0).sum())
-        asked = abs(wanted) * sum(turns for *_, turns in self.pairs)
+        asked = abs(wanted) * sum(flips for *_, flips in self.pairs)
         if debt > self.debt and debt > self.owed.size + asked / 2:
             way = "A flow from rest needs them all at once: begin with a gas that moves (east=..)"
-            owed = f"the rows owe {debt:.0f} turns of {asked:.0f} per kick"
+            owed = f"the rows owe {debt:.0f} flips of {asked:.0f} per kick"
             raise Fault(f"{owed}, and have {TOO_FEW}. {way}")
         self.debt = debt
         if not keeps_rest:
             np.clip(self.owed, -0.5, 0.5, out=self.owed)
-        return after, sum(turned), float(2 * self.momenta @ turned)
+        return after, sum(flipped), float(2 * self.momenta @ flipped)
 
-    def _turn(self, states: States, numbers: Ints, east: int, west: int) -> Ints:
-        """Turns so many particles of each row from west to east, or from east to west if the number
+    def _flip(self, states: States, numbers: Ints, east: int, west: int) -> Ints:
+        """Flips so many particles of each row from west to east, or from east to west if the number
         is negative, as far as there are any, and returns how many. From random fluid cells of the
         row the next one, eastwards, whose other direction is empty and which no other took, and
         past the row's end from its begin on."""

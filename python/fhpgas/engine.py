@@ -26,10 +26,10 @@ import numpy as np
 from numpy.ctypeslib import ndpointer
 
 from . import gas_table
+from .arrays import Ints, Words
 from .beside import cores_of_call
 from .fault import Fault, integer
 from .fields import Size, number_of
-from .gases import Ints, Words
 from .groups import group
 from .program import GET, SYSTEM
 from .progress import counted

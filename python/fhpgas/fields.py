@@ -11,8 +11,9 @@ from typing import TYPE_CHECKING, Any, NamedTuple, TypeAlias
 
 import numpy as np
 
+from .arrays import Array, Floats, States, Words, array_of
 from .fault import Fault, integer, seed_of
-from .gases import AnyGas, Array, Floats, Gas, States, Words, array_of, gas_named
+from .gases import AnyGas, Gas, gas_named
 
 if TYPE_CHECKING:
     from .planes import Sized

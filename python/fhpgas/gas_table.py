@@ -19,7 +19,7 @@ class Row:
 
     momenta: tuple[tuple[int, int], ...]  # of its directions, eastwards and northwards
     units: tuple[float, float]  # of the momenta
-    cycles: tuple[tuple[int, ...], ...]  # a state turns left into the next, the last into the first
+    cycles: tuple[tuple[int, ...], ...]  # each state rotates left into the next, the last into [0]
     in_print: tuple[str, ...]  # what it is called there, in small letters and without hyphens
     # Published formulas at a filling d (theory.py sums the viscosity over the collisions instead),
     # and by chirality the fillings from .. to .. at which measured viscosities are `Correlated`, in
@@ -50,5 +50,5 @@ GASES = {
         correlated={"seeded": (0.08, 0.65), "left": (0.05, 0.65)},
     ),
 }
-# The sides to which pairs turn, by chirality, in the order of the header too.
+# The sides to which pairs rotate, by chirality, in the order of the header too.
 CHIRALITIES = {"seeded": ("left", "right"), "left": ("left",), "right": ("right",)}

@@ -2,64 +2,20 @@
 as docs/FORMATS.md lists them."""
 import functools
 import reprlib
-from collections.abc import Iterable
-from typing import Any, Literal, TypeAlias, TypeVar, cast
+from typing import Any, Literal, TypeAlias, cast
 
 import numpy as np
-from numpy.typing import NDArray
 
 from . import gas_table
+from .arrays import Floats, Ints, States, Sums, read_only
 from .fault import Fault
 from .gas_table import CHIRALITIES
 from .limits import DRIVES
 
-Array: TypeAlias = NDArray[Any]
-Ints: TypeAlias = NDArray[np.int64]
-Floats: TypeAlias = NDArray[np.float64]
-Sums: TypeAlias = NDArray[np.int64 | np.float64]  # integers in `hpp`, of blocks if not smoothed
-Words: TypeAlias = NDArray[np.uint64]
-States: TypeAlias = NDArray[np.uint8]
-Mask: TypeAlias = NDArray[np.bool_]
-Same = TypeVar("Same", bound=Array)
 AnyGas: TypeAlias = "Literal['fhp1', 'hpp', 'fhp-rest'] | Gas"
 Chirality: TypeAlias = Literal["seeded", "left", "right"]
 STATES = np.arange(128, dtype=np.uint8)
-TOO_FEW = "too few particles to turn: the flow is too fast, the force too large, the gas too thin"
-
-
-def read_only(array: Same) -> Same:
-    """The same array, which can no longer be written."""
-    array.flags.writeable = False
-    return array
-
-
-def array_of(what: str, values: Any) -> Array:
-    """Values as an array. Masked ones, which numpy's functions would take for values, raise a Fault
-    that begins with `what`."""
-    found = np.ma.asarray(values)
-    if np.ma.is_masked(found):
-        raise Fault(f"{what}: a masked value is none, so fill it first, as by .filled(0)")
-    return np.asarray(found.data)
-
-
-def floats_of(what: str, values: Iterable[Any], why: str) -> Floats:
-    """Values as a new array of floats. Others raise a Fault, of `why` or as `array_of` does."""
-    try:
-        return array_of(what, [*values]).astype(float)
-    except Fault:
-        raise
-    except (TypeError, ValueError):
-        raise Fault(why) from None
-
-
-def mask(values: Any) -> Mask:
-    """Truth values, or numbers that are 0 or 1, as a new array of truth values. Anything else, such
-    as an image's greys, raises a Fault."""
-    array = array_of("solid cells", values)
-    if array.dtype.kind not in "iub" or array.size and not 0 <= array.min() <= array.max() <= 1:
-        why = f"not {array.dtype}: compare an image with a number, as in `image > 127`"
-        raise Fault(f"solid cells are an array of truth values, or of 0 and 1, {why}")
-    return array.astype(bool)
+TOO_FEW = "too few particles to flip: the flow is too fast, the force too large, the gas too thin"
 
 
 class Gas:
@@ -77,7 +33,7 @@ class Gas:
     velocities : array of shape (b, 2)
         `momenta` times `units`.
     opposite : array of int of shape (b,)
-        The directions turned back.
+        The directions reversed.
     steps : array of int of shape (2, b, 2)
         By the parity of the row, the columns and rows to the neighbour.
     row_distance, shift : float
@@ -89,7 +45,7 @@ class Gas:
     number, px, py : array of int of shape (128,)
         The sums of a state.
     turned : array of shape (128,)
-        The states with all particles turned back.
+        The states with all particles reversed.
     """
 
     def __init__(self, name: str):
@@ -122,10 +78,10 @@ class Gas:
 
     @functools.cache
     def collisions(self, side: str) -> States:
-        """The states [128] after a collision, with head-on pairs that turn to this side, "left" or
-        "right"."""
+        """The states [128] after a collision, with head-on pairs that rotate to this side, "left"
+        or "right"."""
         if side not in ("left", "right"):
-            raise Fault(f"head-on pairs turn left or right, not {side!r}")
+            raise Fault(f"head-on pairs rotate left or right, not {side!r}")
         table = STATES.copy()
         for cycle in self._cycles:
             table[[*cycle]] = np.roll(cycle, -1 if side == "left" else 1)
@@ -133,16 +89,16 @@ class Gas:
 
     @functools.cache
     def turns(self, along: str) -> tuple[tuple[int, int, float], ...]:
-        """The pairs of directions between which a force to the east turns particles: the eastward
+        """The pairs of directions between which a force to the east flips particles: the eastward
         one, the westward one that differs from it in the sign of `px` only, and how many particles
-        are turned per unit of momentum. "rows" turns W to E. "directions" changes every direction
+        are flipped per unit of momentum. "rows" flips W to E. "directions" changes every direction
         in proportion to its velocity c_i eastwards, as a pressure gradient does: NW to NE and SW to
         SE too."""
         if along not in DRIVES:
             raise Fault(f"a force acts along one of {', '.join(DRIVES)}, not {reprlib.repr(along)}")
         momenta = self.momenta.tolist()
-        turned = [[x, y] for x, y in momenta if x > 0 and (y == 0 or along == "directions")]
-        pairs = [(momenta.index([x, y]), momenta.index([-x, y])) for x, y in turned]
+        eastward = [[x, y] for x, y in momenta if x > 0 and (y == 0 or along == "directions")]
+        pairs = [(momenta.index([x, y]), momenta.index([-x, y])) for x, y in eastward]
         east = self.velocities[[pair[0] for pair in pairs], 0]
         return tuple((*pair, c / 2 / (east @ east)) for pair, c in zip(pairs, east.tolist()))
 

@@ -8,13 +8,13 @@ from typing import Any, TypeAlias
 import numpy as np
 
 from . import drive, engine, fields, forms, limits, long_runs
+from .arrays import Array, Ints, Mask, States, Sums, Words, array_of, mask, read_only
 from .blocks import Blocks, Value, read_table
 from .cells import CODES, cells_of, codes_of, lines_of, parts_of
 from .fault import Fault, integer, seed_of
 from .fields import AnySize
 from .files import Path, is_npz
-from .gases import AnyGas, Array, Chirality, Gas, array_of, chirality_named, gas_named, mask
-from .gases import GASES, Ints, Mask, States, Sums, Words, read_only
+from .gases import GASES, AnyGas, Chirality, Gas, chirality_named, gas_named
 from .planes import Cells, Walls, block_ones
 from .plans import planned
 from .program import call, program_path
@@ -40,7 +40,7 @@ class Lattice(Value):
     gas : str or Gas, optional
         One of `GASES`, such as "fhp1".
     chirality : {"seeded", "left", "right"}, optional
-        The side to which head-on pairs turn.
+        The side to which head-on pairs rotate.
     seed : int or numpy.random.SeedSequence, optional
         Of the random bits of "seeded", 0 to 2^63 - 1.
     generation : int, optional
@@ -312,7 +312,7 @@ class Lattice(Value):
 
         Examples
         --------
-        A head-on pair turns to the left.
+        A head-on pair rotates to the left.
 
         >>> pair = fhpgas.Lattice([[0] * 4, [0, 9, 0, 0], [0] * 4], chirality="left")
         >>> np.argwhere(pair.run(1).states).tolist()
@@ -352,10 +352,10 @@ class Lattice(Value):
         return self.run(generations, workers).blocks(*block)
 
     def reverse(self) -> "Lattice":
-        """The lattice with all particles turned back.
+        """The lattice with all particles reversed.
 
         A generation collides and then moves. Backwards it moves and then collides, so the particles
-        collide before they are turned, and a collision to the left is undone by one to the right.
+        collide before they are reversed, and a collision to the left is undone by one to the right.
 
         Returns
         -------

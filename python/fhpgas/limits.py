@@ -4,7 +4,7 @@ from typing import Literal, TypeAlias
 Quantity: TypeAlias = Literal[  # of a picture: fields of blocks, and particles of a small lattice
     "speed", "east", "north", "vorticity", "density", "filling", "pressure", "particles"
 ]
-DRIVES = "rows", "directions"  # along which a force turns particles
+DRIVES = "rows", "directions"  # along which a force flips particles
 PILLOW, FFMPEG = (".gif", ".webp", ".apng"), (".mp4",)  # films, by what writes them
 MOST_SIDE, MOST_BLOCK, MOST_BYTES = 65536, 4096, 67_108_864
 MOST_SEED, MOST_GENERATIONS, LAST_OF_SCENE = 2**63 - 1, 1_000_000, 10**12

@@ -5,8 +5,9 @@ from typing import Any, NamedTuple
 
 import numpy as np
 
+from .arrays import Floats, Sums, array_of, floats_of, mask
 from .fault import Fault
-from .gases import AnyGas, Floats, Sums, array_of, floats_of, gas_named, mask
+from .gases import AnyGas, gas_named
 from .lattice import Lattice
 
 FORCED = "upper", "lower", "solid"
@@ -74,7 +75,7 @@ def forces(lattice: Lattice, part: Any = None) -> dict[str, Sums]:
 
     Examples
     --------
-    A particle to the north-east stays in its cell and turns back at the upper wall.
+    A particle to the north-east stays in its cell and is reversed at the upper wall.
 
     >>> bounced = fhpgas.Lattice([[2], [0]]).run(1)
     >>> [round(float(momentum), 3) for momentum in fhpgas.forces(bounced)["upper"]]

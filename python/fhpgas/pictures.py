@@ -19,11 +19,11 @@ from typing import TYPE_CHECKING, Any, NamedTuple, TypeAlias
 
 import numpy as np
 
+from .arrays import Array
 from .blocks import Blocks
 from .fault import Fault, integer, library, real
 from .fields import positions, pair_checked
 from .files import Path, of_file, write_whole
-from .gases import Array
 from .lattice import Lattice
 from .limits import FFMPEG, PILLOW, Quantity
 from .planes import block_ones, packed
@@ -159,8 +159,8 @@ def particles(lattice: Lattice, ax: Axes) -> Axes:
 
     gas, (X, Y) = lattice.gas, np.broadcast_arrays(*positions(lattice.size, lattice.gas))
     corners = 4 if gas.is_square else 6
-    turns = np.exp(2j * np.pi * (np.arange(corners) + 0.5) / corners) / 2 / np.cos(np.pi / corners)
-    outlines = np.stack([X.reshape(-1, 1) + turns.real, Y.reshape(-1, 1) + turns.imag], 2)
+    corner = np.exp(2j * np.pi * (np.arange(corners) + 0.5) / corners) / 2 / np.cos(np.pi / corners)
+    outlines = np.stack([X.reshape(-1, 1) + corner.real, Y.reshape(-1, 1) + corner.imag], 2)
     inside = np.where(lattice.solid.ravel(), GREY, "white")
     style = {"facecolors": inside, "edgecolors": PALE, "linewidths": 0.8}
     ax.add_collection(made.PolyCollection(outlines, **style))

@@ -7,7 +7,8 @@ from typing import Any, NamedTuple
 
 import numpy as np
 
-from .gases import Array, Gas, Ints, Mask, States, Words, read_only
+from .arrays import Array, Ints, Mask, States, Words, read_only
+from .gases import Gas
 
 CACHED = 1 << 18  # cells whose bits are packed or unpacked at a time
 BITS = np.uint64(1), np.uint64(2), np.uint64(4)

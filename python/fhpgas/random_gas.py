@@ -5,8 +5,9 @@ from typing import Any
 import numpy as np
 
 from . import fields
+from .arrays import Mask, mask
 from .fault import Fault, seed_of
-from .gases import AnyGas, Chirality, Mask, gas_named, mask
+from .gases import AnyGas, Chirality, gas_named
 from .lattice import Lattice
 from .theory import sound_speed
 

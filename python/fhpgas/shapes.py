@@ -12,9 +12,10 @@ from typing import Any
 
 import numpy as np
 
+from .arrays import Ints, Mask, array_of, floats_of
 from .fault import Fault, integer, library, real
 from .fields import CACHED, AnySize, lots_of, size_of
-from .gases import AnyGas, Ints, Mask, array_of, floats_of, gas_named
+from .gases import AnyGas, gas_named
 
 FAR = 1e6  # cells, of a corner of a polygon
 

@@ -13,11 +13,12 @@ from typing import Any, NamedTuple
 
 import numpy as np
 
+from .arrays import Floats, array_of
 from .boltzmann import collision_matrix, pair_closure
 from .fault import Fault, integer, real
 from .fields import equilibrium
 from .gas_table import GASES
-from .gases import AnyGas, Chirality, Floats, Gas, array_of, chirality_named, gas_named
+from .gases import AnyGas, Chirality, Gas, chirality_named, gas_named
 
 
 def sound_speed(gas: AnyGas) -> float:
@@ -77,16 +78,16 @@ def relaxed(gas: AnyGas, filling: Any, chirality: Chirality, mode: Any) -> Any:
     return -(undone @ mode.conj()) / (abs(mode) ** 2).sum()
 
 
-def _turning(gas: Gas, times: int) -> Any:
-    """The mode [b] of the moving directions that turns so many times as the direction turns once: 2
-    is the shear, 3 the staggered mode."""
+def _rotating(gas: Gas, times: int) -> Any:
+    """The mode [b] of the moving directions that rotates so many times as the direction does once:
+    2 is the shear, 3 the staggered mode."""
     i = np.arange(gas.directions)
     return np.where(i < 6, np.exp(1j * np.pi / 3 * times * i), 0)
 
 
 def _shear(gas: AnyGas, filling: Any, chirality: Chirality) -> Any:
     named = isotropic(gas)
-    share = relaxed(named, filling, chirality, _turning(named, 2))
+    share = relaxed(named, filling, chirality, _rotating(named, 2))
     return (1 / share - 1 / 2) / 4  # c^2 / (dimensions + 2), where c = 1
 
 
@@ -236,8 +237,8 @@ def slip(gas: AnyGas, filling: Any, chirality: Chirality = "seeded", along: str 
     16.8
     """
     named = isotropic(gas)
-    mode = _turning(named, 3).real
-    kick = sum(turns * (mode[east] - mode[west]) for east, west, turns in named.turns(along))
+    mode = _rotating(named, 3).real
+    kick = sum(flips * (mode[east] - mode[west]) for east, west, flips in named.turns(along))
     m = relaxed(named, filling, chirality, mode)
     staggered = (2 + kick * (1 - m)) / m  # of a row, for a force of 1
     return 8 / 3 * _shear(named, filling, chirality).real * (staggered - 1) - 1 / 4

@@ -29,11 +29,12 @@ import distributed
 import numpy as np
 
 from . import engine, fields
+from .arrays import Ints, States, mask
 from .blocks import Blocks
 from .cells import SOLID, codes_of, parts_of
 from .fault import Fault, integer, seed_of
 from .files import Path
-from .gases import AnyGas, Chirality, Gas, Ints, States, chirality_named, gas_named, mask
+from .gases import AnyGas, Chirality, Gas, chirality_named, gas_named
 from .lattice import Lattice
 from .limits import MOST_SIDE, Quantity
 from .planes import unpacked
