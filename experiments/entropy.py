@@ -1,11 +1,11 @@
 #!/usr/bin/env python3
-"""Entropy through the reversal: what a coarse view of a gas sees while the gas spreads, is turned,
-and comes back.
+"""Entropy through the reversal: what a coarse view of a gas sees while the gas spreads, is
+reversed, and comes back.
 
 Entropy is that of the chances of the directions in blocks of 8 x 8 cells, -H per cell. The gas
-itself forgets nothing, so all turned it comes back and its entropy falls. With one particle of
-thousands not turned, the entropy falls for a while and rises again. "Filled evenly": the entropy of
-blocks that are filled at random with the gas's mean density, from the binomial distribution."""
+itself forgets nothing, so all reversed it comes back and its entropy falls. With one particle of
+thousands not reversed, the entropy falls for a while and rises again. "Filled evenly": the entropy
+of blocks that are filled at random with the gas's mean density, from the binomial distribution."""
 import common
 import fhpgas
 import numpy as np
@@ -13,7 +13,7 @@ import reversal
 from equilibrium import h_of
 from scipy.stats import binom
 
-SIDE, PARTS, NAMES = 8, 10, ("forwards", "back, all turned", "back, one not turned")
+SIDE, PARTS, NAMES = 8, 10, ("forwards", "back, all reversed", "back, one not")
 
 
 def entropy(lattice):
@@ -29,11 +29,11 @@ def highest(lattice):
 
 
 def measured(asked, seed):
-    """The entropies [3, time] forwards, back, and back with one particle not turned, by the
+    """The entropies [3, time] forwards, back, and back with one particle not reversed, by the
     generation that each state belongs to."""
     there = [*reversal.letter(asked.gas, asked.size, seed).every(asked.generations // PARTS, PARTS)]
     found = [[entropy(lattice) for lattice in there]]
-    for lattice in there[-1], reversal.turned(there[-1]):
+    for lattice in there[-1], reversal.flipped(there[-1]):
         back = lattice.reverse().every(asked.generations // PARTS, PARTS)
         found.append([entropy(each.reverse()) for each in back][::-1])
     return found
@@ -52,7 +52,7 @@ def draw(path, asked, times, means, errors, most):
 
 @common.experiment
 def main():
-    figure = "the entropy on the way there, back, and back with one particle not turned"
+    figure = "the entropy on the way there, back, and back with one particle not reversed"
     reader = common.Options(figure, common.GASES, seeds=(8, 4))
     reader.option("--size", common.whole(40, 2048), 192, 192, "columns and rows")
     reader.option("--generations", common.whole(PARTS, 10_000), 200, 200, "each way")

@@ -15,8 +15,8 @@ ACROSS, PARTS, BLOCK = 0.1, 12, 16
 
 def places(asked, momenta):
     """The wave's place over time, from the momenta northwards [time, block of columns]."""
-    turns = np.exp(-2j * np.pi * BLOCK * np.arange(np.shape(momenta)[1]) / asked.wave)
-    phases = np.unwrap(np.angle(np.asarray(momenta) @ turns))
+    wave = np.exp(-2j * np.pi * BLOCK * np.arange(np.shape(momenta)[1]) / asked.wave)
+    phases = np.unwrap(np.angle(np.asarray(momenta) @ wave))
     return (phases[0] - phases) * asked.wave / 2 / np.pi
 
 

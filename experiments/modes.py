@@ -19,13 +19,13 @@ def matrix(asked, wave):
 
 
 class Wave:
-    """The shear and the sound in a channel of so many rows, which a half turn continues."""
+    """The shear and the sound in a channel of so many rows, which half a rotation continues."""
 
     def __init__(self, asked, rows):
         self.asked, self.gas = asked, fhpgas.gas_named(asked.gas)
         self.size = fhpgas.Size(CELLS // rows, rows)
         self.k = np.pi / rows / self.gas.row_distance
-        self.turns = self.k * fhpgas.positions(self.size, self.gas)[1]
+        self.angles = self.k * fhpgas.positions(self.size, self.gas)[1]
         factors, shapes = np.linalg.eig(matrix(asked, (0, self.k)))
         across, along = abs(self.gas.velocities.T @ shapes)
         is_still = abs(factors.imag) < 1e-9
@@ -34,12 +34,12 @@ class Wave:
         self.step = max(1, round(-1 / np.log(self.factors[0].real) / PARTS))
 
     def measured(self, seed):
-        filling = self.asked.filling * (1 + SIZE * np.cos(self.turns))
+        filling = self.asked.filling * (1 + SIZE * np.cos(self.angles))
         flow = dict(gas=self.gas, chirality=self.asked.chirality, seed=seed)
-        start = fhpgas.draw_gas(filling, SIZE * np.sin(self.turns), size=self.size, **flow)
+        start = fhpgas.draw_gas(filling, SIZE * np.sin(self.angles), size=self.size, **flow)
         sizes, times = [], self.step * np.arange(PARTS + 1)
         for lattice in start.every(self.step, PARTS):
-            waves = lattice.counts(self.size[0], 1)[..., 0] @ np.exp(-1j * self.turns)
+            waves = lattice.counts(self.size[0], 1)[..., 0] @ np.exp(-1j * self.angles)
             sizes.append(self.projections @ (waves + waves.conj()[self.gas.opposite])[:, 0])
         rest = np.log(sizes / sizes[0] / self.factors ** times[:, None])
         return self.numbers(np.polyfit(times, rest, 1)[0])

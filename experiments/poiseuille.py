@@ -2,9 +2,9 @@
 """Poiseuille flow: a driven gas between two walls, its viscosity, its slip at the walls, and the
 odd viscosity of a chiral gas.
 
-`fhpgas.driven` turns particles, a force F on every cell, from west to east or along all directions
+`fhpgas.driven` flips particles, a force F on every cell, from west to east or along all directions
 (`--along`), which makes another slip. To the mean of the rows' velocities before and after the
-turnings, and of the seeds, a parabola u = F (zero^2 - y^2) / (2 b d viscosity) is fitted. In H rows
+flips, and of the seeds, a parabola u = F (zero^2 - y^2) / (2 b d viscosity) is fitted. In H rows
 it ends at zero^2 = H^2 / 4 + K squared rows, with one slip K for every H. Errors are a jackknife's
 over the seeds. In a chiral gas a shear changes the density by -b d odd viscosity / c^2 du/dy.
 Theory: the same with the noise-free Boltzmann equation.
@@ -97,7 +97,7 @@ def main():
     figure = "the profile with its parabola, what is left, and the slip"
     reader = common.Options(figure, common.FLUIDS, seeds=(8, 4))
     reader.chirality()
-    reader.option("--along", str, *DRIVES[:1] * 2, "what the force turns", choices=DRIVES)
+    reader.option("--along", str, *DRIVES[:1] * 2, "what the force flips", choices=DRIVES)
     reader.filling(0.1, 0.6, 0.3)
     rows, cells = "rows, one or more", "of the channel, so columns are cells / rows"
     time = f"time of the samples, each {SPAN} times the time in which a flow relaxes"

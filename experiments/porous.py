@@ -12,8 +12,8 @@ import numpy as np
 from fhpgas import boltzmann, theory
 from scipy.ndimage import label
 
-# Odd, because particles in a pocket of one cell turn in every generation, and after an even number
-# the kicks would add up.
+# Odd, because particles in a pocket of one cell reverse in every generation, and after an even
+# number the kicks would add up.
 EVERY = 9
 
 
@@ -60,10 +60,10 @@ def main():
     reader.option("--height", common.whole(16, 4096), 96, 32, "rows")
     reader.option("--share", common.number(0, 0.7), 0.2, 0.2, "of solid cells, at least")
     reader.option("--radius", common.whole(1, 64), 6, 4, "of the discs")
-    forces, turnings = [0.0005, 0.001, 0.002], f"turnings before the first sample, {EVERY}"
-    each, after = "on each fluid cell", "how many, at the turnings after these"
+    forces, kicks = [0.0005, 0.001, 0.002], f"kicks before the first sample, {EVERY}"
+    each, after = "on each fluid cell", "how many, at the kicks after these"
     reader.option("--force", common.number(1e-5, 0.02), forces, [0.002], each, metavar="F")
-    reader.option("--settled", common.whole(10, 10_000), 30, 15, f"{turnings} generations apart")
+    reader.option("--settled", common.whole(10, 10_000), 30, 15, f"{kicks} generations apart")
     reader.option("--samples", common.whole(2, 100_000), 200, 85, after)
     asked, fluxes = reader.parse_args(), []
     solid = medium(asked)

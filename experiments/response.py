@@ -8,7 +8,8 @@ stress that is left after t generations is C(t), and the viscosity (1/2 + C(1) +
 is measured in the rows that the walls have not reached, after EACH generations in each `--step`-th.
 Boltzmann's equation begins with the same chances. "Above it" is measured / Boltzmann - 1 in
 percent, "pairs" the same of the closure (`fhpgas.theory.pair_viscosity`). With `--triples` three
-particles at equal angles collide with this chance: the others turn before it, and so back."""
+particles at equal angles collide with this chance: the others are reversed before it, and so
+back."""
 import common
 import fhpgas
 import numpy as np
@@ -44,7 +45,7 @@ class Stress:
         return theory.running_viscosity(np.interp(range(until + 1), self.times, found))
 
     def later(self, lattice, generations, lots):
-        """A later lattice. Before each generation those triples turn that must not collide."""
+        """A later lattice. Before each generation those triples reverse that must not collide."""
         if self.asked.triples == 1:
             return lattice.run(generations)
         for _ in range(generations):

@@ -1,10 +1,10 @@
 #!/usr/bin/env python3
-"""Reversal: a gas runs, all its particles are turned, and it comes back bit for bit. With one of
-them not turned it does not.
+"""Reversal: a gas runs, all its particles are reversed, and it comes back bit for bit. With one
+of them not reversed it does not.
 
 A dense letter L in a thin gas spreads with chirality left, and runs back with chirality right
-(`Lattice.reverse`). In the table two gases that differ by one turned particle run forwards. After t
-generations at most 1 + 3 t (t + 1) cells differ, in hpp 1 + 2 t (t + 1)."""
+(`Lattice.reverse`). In the table two gases that differ by one flipped particle run forwards. After
+t generations at most 1 + 3 t (t + 1) cells differ, in hpp 1 + 2 t (t + 1)."""
 import common
 import fhpgas
 import numpy as np
@@ -20,8 +20,8 @@ def letter(gas, size, seed=1):
     return fhpgas.draw_gas(np.where(is_letter, 0.8, 0.05), gas=gas, chirality="left", seed=seed)
 
 
-def turned(lattice):
-    """The lattice with one particle turned from east to west, in the first cell after the middle
+def flipped(lattice):
+    """The lattice with one particle flipped from east to west, in the first cell after the middle
     that has one."""
     states, east, west = lattice.states.copy(), 1, 1 << lattice.gas.opposite[0]
     y, x = np.argwhere(states[len(states) // 2 :] & (east | west) == east)[0]
@@ -30,7 +30,7 @@ def turned(lattice):
 
 
 def draw(path, shown, growth):
-    titles = "start", "before the way back", "back, all turned", "back, one not turned"
+    titles = "start", "before the way back", "back, all reversed", "back, one not"
     look = dict(block=(2, 2), vmin=0, vmax=shown[0].gas.directions / 2, colorbar=False)
     times, numbers, most = zip(*growth)
     with common.axes(path, 1, 5, (3.2, 3.2)) as panels:
@@ -53,11 +53,11 @@ def main():
     shown = [start, late := start.run(asked.generations)]
     print(f"{start.particles} particles in {asked.size**2} cells;", end=" ")
     print(f"there and back {asked.generations} generations each")
-    for name, lattice in (("all particles turned", late), ("and one of them not", turned(late))):
+    for name, lattice in (("all particles reversed", late), ("and one of them not", flipped(late))):
         shown.append(lattice.reverse().run(asked.generations).reverse())
         number = np.count_nonzero(shown[-1].states != start.states)
         print(f"{name}: {number} cells differ from the start")
-    other, sides = turned(start), 2 if start.gas.is_square else 3
+    other, sides = flipped(start), 2 if start.gas.is_square else 3
     print("generations  cells that differ    most")
     growth = []
     for time in TIMES:

@@ -2,12 +2,12 @@
 """A vortex street behind a cylinder: its Strouhal number, and a picture of its vorticity.
 
 The gas flows past a disc of diameter D in a channel that is periodic after `--length` D. Its mean
-speed is kept by turning particles. A gust to the north starts the street. In the last two thirds of
-the run are measured: the mean speed, the speed u that meets the disc (over its height, one to two D
-ahead of it), the changes of sign of the flow across in the wake (one to two D behind the disc),
-half a period apart, and the heights of the vortices. St = D / (T g u), for each half period with
-the speed during it, Re = g u D / viscosity, with pairs. A free cylinder has St = 0.212 (1 - 21.2 /
-Re) (A. Roshko, NACA Report 1191, 1954) and sheds vortices from about Re = 47 on."""
+speed is kept by flipping particles. A gust to the north starts the street. In the last two thirds
+of the run are measured: the mean speed, the speed u that meets the disc (over its height, one to
+two D ahead of it), the changes of sign of the flow across in the wake (one to two D behind the
+disc), half a period apart, and the heights of the vortices. St = D / (T g u), for each half period
+with the speed during it, Re = g u D / viscosity, with pairs. A free cylinder has St = 0.212 (1 -
+21.2 / Re) (A. Roshko, NACA Report 1191, 1954) and sheds vortices from about Re = 47 on."""
 import common
 import fhpgas
 import numpy as np
@@ -125,7 +125,7 @@ def main():
     reader.option("--flow", common.number(0.02, 0.35), 0.3, 0.15, "the mean speed", metavar="U")
     generations, text = common.whole(100, 10_000_000), "in all, a multiple of the part"
     reader.option("--generations", generations, 60_000, 1500, text)
-    text = "generations from one turning of particles to the next"
+    text = "generations from one kick to the next"
     reader.option("--part", common.whole(10, 10_000), 200, 50, text)
     reader.option("--seed", common.whole(0, 2**31), 1, 1, "of the gas")
     text = "keep the last lattice as a scene: .toml"
