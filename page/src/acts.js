@@ -69,7 +69,7 @@ function half() {
 /** Goes back, if all flows can, or offers a way on. */
 function back(command) {
   hideNotes();
-  if (shown.frames.some(({ canTurn }) => !canTurn)) {
+  if (shown.frames.some(({ canReverse }) => !canReverse)) {
     const why = "Pairs turn at random here, and their random bits only run forwards.";
     const offer = element("button", { id: "offer" }, "Go on with left");
     offer.onclick = () => {

@@ -1,4 +1,4 @@
-// The drive: in every generation particles are turned from west to east until the mean velocity is the wind. What it does
+// The drive: in every generation particles are flipped from west to east until the mean velocity is the wind. What it does
 // therefore does not depend on how many generations a frame has. Every fluid cell has the same share of the force.
 
 const MEMORY = 1000; // generations of a mean over time
@@ -6,7 +6,7 @@ const MEMORY = 1000; // generations of a mean over time
 export class Drive {
   wind = /** @type {number | null} */ (null);
   count = 0; // of generations with this wind, and means over the last of them
-  velocity = /** @type {number | null} */ (null); // of the particles before they are turned
+  velocity = /** @type {number | null} */ (null); // of the particles before some are flipped
   force = /** @type {number | null} */ (null); // momentum that was added per fluid cell and generation
   fluid = 0;
   particles = 0;
@@ -44,7 +44,7 @@ export class Drive {
     }
   }
 
-  /** Brings a flow to the wind. Returns whether there were particles to turn. */
+  /** Brings a flow to the wind. Returns whether there were particles to flip. */
   act(flow) {
     const { cells, kernel, gas: { units: [unit], momenta: [[east]], opposite: [west] } } = flow;
     this.px += kernel.pushed();

@@ -100,8 +100,8 @@ export class Experiment {
     }
   }
 
-  turn(change) {
-    if (this.watched.every(({ flow }) => flow.canTurn)) this.each(change);
+  reverse(change) {
+    if (this.watched.every(({ flow }) => flow.canReverse)) this.each(change);
   }
 
   stroke(piece) {
@@ -124,7 +124,7 @@ export class Experiment {
     this.did(what, () => undone.forEach((undo) => undo()));
   }
 
-  /** Turns one particle, and goes on beside it without this turn. */
+  /** Flips one particle, and goes on beside it without this flip. */
   flip(at) {
     const undone = this.watched.flatMap((watched) => watched.flip(this.make, at) ?? []);
     if (!undone.length) return;

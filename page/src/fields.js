@@ -138,8 +138,8 @@ export class TimeMean {
     this.middle = all / allCells / this.gas.directions;
   }
 
-  /** All particles were turned, and what was measured of them is turned too. */
-  turn() {
+  /** All particles were reversed, and what was measured of them is reversed too. */
+  reverse() {
     for (const part of [...this.parts.slice(2), this.u, this.v]) part.forEach((value, i) => (part[i] = -value));
   }
 

@@ -1,7 +1,7 @@
 // A gas that runs: its cells, the drive, and the way back, on which what was done to the cells is undone.
 import { Cells } from "./cells.js";
 import { Drive } from "./drive.js";
-import { OTHER, SOLID, turns } from "./gases.js";
+import { OTHER, SOLID, reversedStates } from "./gases.js";
 import { CELL, History, WAS_SOLID } from "./history.js";
 import { copied, sidesOf } from "./kernel.js";
 import { count } from "./numbers.js";
@@ -11,11 +11,11 @@ export class Flow {
   direction = 1; // -1 on the way back
   changes = 0; // counts what happens to the cells
   isDisturbed = false; // something was changed that the way back does not undo
-  isMessage = false; // a particle that is turned is not turned back
+  isMessage = false; // a particle that is flipped is not flipped back
   late = new Set(); // strokes on the way back
   found = /** @type {number | null} */ (null); // cells that differ from the first ones, once the gas is back
   notes = /** @type {string[]} */ ([]); // what the page is to say
-  mark = /** @type {{ at: Place, generation: number } | null} */ (null); // the particle that was turned
+  mark = /** @type {{ at: Place, generation: number } | null} */ (null); // the particle that was flipped
   shape = /** @type {Int32Array | null} */ (null); // the solid cells that the preset has
   summed = { changes: -1, totals: [0, 0, 0, 0] };
   history = new History();
@@ -27,8 +27,8 @@ export class Flow {
     this.cells = new Cells(kernel);
     this.chirality = chirality;
     this.seed = seed;
-    this.generation = this.turnedAt = generation;
-    this.turned = turns(this.gas);
+    this.generation = this.reversedAt = generation;
+    this.reversed = reversedStates(this.gas);
     this.sides = sidesOf(kernel);
     this.drive = new Drive(wind, seed);
     this.begin();
@@ -66,19 +66,19 @@ export class Flow {
     return this.summed.totals;
   }
 
-  get canTurn() {
+  get canReverse() {
     return this.chirality !== "seeded" || !this.gas.isHexagonal;
   }
 
-  /** The generation of these cells as a scene: on the way back it counts from the turn. */
+  /** The generation of these cells as a scene: on the way back it counts from where that begins. */
   get sceneGeneration() {
-    return this.direction > 0 ? this.generation : this.turnedAt - this.generation;
+    return this.direction > 0 ? this.generation : this.reversedAt - this.generation;
   }
 
   /** What edits flip is remembered with its generation. */
   flip(at, bits) {
     if (this.direction < 0) this.isDisturbed = true;
-    else if (this.canTurn) this.history.flip(this.generation, this.cells, at, bits);
+    else if (this.canReverse) this.history.flip(this.generation, this.cells, at, bits);
     this.cells.flip(at, bits);
   }
 
@@ -103,10 +103,10 @@ export class Flow {
 
   setChirality(chirality) {
     if (!this.isForward()) return;
-    const before = this.chirality, couldTurn = this.canTurn;
+    const before = this.chirality, couldReverse = this.canReverse;
     this.changes++;
     this.chirality = chirality;
-    if (couldTurn && this.canTurn) this.history.open(this.generation, this.cells, before);
+    if (couldReverse && this.canReverse) this.history.open(this.generation, this.cells, before);
     else this.begin();
   }
 
@@ -123,32 +123,32 @@ export class Flow {
     if (this.direction > 0) this.found = null;
   }
 
-  turn() {
-    this.reverse();
+  reverse() {
+    this.reverseCells();
     this.found = null;
     this.drive.keep(this.drive.wind); // its means are of another time
     if (this.direction < 0) {
-      this.turnedAt = this.generation;
+      this.reversedAt = this.generation;
       this.undo();
     } else if (this.isDisturbed) this.begin();
   }
 
-  /** One generation back: all particles are turned for it. */
+  /** One generation back: all particles are reversed for it. */
   back() {
     const { direction } = this;
-    this.turn();
+    this.reverse();
     this.advance(1);
-    if (this.direction !== direction) this.turn();
+    if (this.direction !== direction) this.reverse();
   }
 
   /**
-   * All particles are turned. A generation collides and then moves, backwards it moves and then collides: so particles
-   * collide before they are turned, and at the end collide back, to the other side. docs/PROVED.md has the proof.
+   * All particles are reversed. A generation collides and then moves, backwards it moves and then collides: so particles
+   * collide before they are reversed, and at the end collide back, to the other side. docs/PROVED.md has the proof.
    */
-  reverse() {
-    const { turned, sides, chirality, direction } = this, side = chirality === "left" ? sides.left : sides.right;
+  reverseCells() {
+    const { reversed, sides, chirality, direction } = this, side = chirality === "left" ? sides.left : sides.right;
     this.changes++;
-    this.kernel.change(direction > 0 ? side.map((state) => turned[state]) : turned.map((state) => side[state]));
+    this.kernel.change(direction > 0 ? side.map((state) => reversed[state]) : reversed.map((state) => side[state]));
     this.chirality = OTHER[chirality];
     this.direction *= -1;
   }
@@ -169,7 +169,7 @@ export class Flow {
     const { isCut, origin: { generation, kept } } = this.history;
     const begins = `The way back begins at generation ${count(generation)}`;
     if (isCut) this.notes.push(`${begins}: what was done before took more than 64 MB.`);
-    this.turn();
+    this.reverse();
     this.found = this.cells.differing(kept);
     this.begin();
   }
@@ -177,23 +177,23 @@ export class Flow {
   /** Undoes what was done in this generation. */
   undo() {
     for (let patch; (patch = this.history.pop(this.generation)); ) {
-      const { flips, turning } = patch, walls = wallsBefore(flips);
-      if (turning) this.reverse();
+      const { flips, sideBefore } = patch, walls = wallsBefore(flips);
+      if (sideBefore) this.reverseCells();
       else if (this.isDisturbed) this.undoWalls(walls);
       else this.undoFlips(flips);
-      if (turning) Object.assign(this, { chirality: turning }).reverse();
+      if (sideBefore) Object.assign(this, { chirality: sideBefore }).reverseCells();
       for (const stroke of [...patch.strokes, ...this.late]) for (const at of walls.keys()) stroke.flips.delete(at);
       if (walls.size) this.kernel.wallsChanged();
     }
   }
 
-  /** Cell by cell, since a collision and a turn need no neighbours. */
+  /** Cell by cell, since colliding and reversing need no neighbours. */
   undoFlips(flips) {
-    const { turned, cells, chirality, sides: { left, right } } = this;
+    const { reversed, cells, chirality, sides: { left, right } } = this;
     const [side, other] = chirality === "right" ? [right, left] : [left, right];
     for (const flip of flips.reverse()) {
-      const place = Math.floor(flip / CELL), state = cells.state(place), before = side[turned[state]] ^ flip & 255;
-      cells.flip(place, state ^ turned[other[before]]);
+      const place = Math.floor(flip / CELL), state = cells.state(place), before = side[reversed[state]] ^ flip & 255;
+      cells.flip(place, state ^ reversed[other[before]]);
     }
   }
 
@@ -201,9 +201,9 @@ export class Flow {
   undoWalls(walls) {
     const { cells } = this, unlike = [...walls.keys()].filter((at) => cells.isSolid(at) !== walls.get(at));
     if (!unlike.length) return;
-    this.reverse();
+    this.reverseCells();
     cells.rebuilt(unlike)?.flips.forEach((bits, at) => cells.flip(at, bits));
-    this.reverse();
+    this.reverseCells();
   }
 }
 

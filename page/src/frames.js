@@ -11,11 +11,11 @@ import { flipOne } from "./tools.js";
 
 /** A flow as it is looked at. */
 export class Watched {
-  twin = /** @type {Flow | null} */ (null); // the same gas without the turn of one particle
+  twin = /** @type {Flow | null} */ (null); // the same gas in which no particle was flipped
   disc = /** @type {{ at: Place, places: number[] } | null} */ (null); // the disc of the probe
   lengths = ""; // what was drawn
   direction = 1; // of the means
-  cone = /** @type {Place | null} */ (null); // where a particle was turned, to be compared
+  cone = /** @type {Place | null} */ (null); // where a particle was flipped, to be compared
 
   /** @param {Flow} flow */
   constructor(flow) {
@@ -24,7 +24,7 @@ export class Watched {
     this.velocity = new MeanVelocity(flow);
   }
 
-  /** Turns a particle, and returns what undoes it. The gas without this turn goes on beside, to be compared. */
+  /** Flips a particle, and returns what undoes it. The gas without this flip goes on beside, to be compared. */
   flip(make, at) {
     const { kernel, chirality, seed, generation, drive, direction } = this.flow;
     if (direction > 0) {
@@ -35,7 +35,7 @@ export class Watched {
     return flipOne(this.flow, at);
   }
 
-  /** After a change that ended the comparison: another particle is turned at the same place, once time runs forwards. */
+  /** After a change that ended the comparison: another particle is flipped at the same place, once time runs forwards. */
   renew(make) {
     const { flow, twin, cone } = this;
     if (twin || !cone) return;
@@ -101,8 +101,8 @@ export class Watched {
 
   frame(view, generations) {
     const { flow, velocity } = this, { gas, cells, kernel, drive, history, chirality, generation } = flow;
-    const { direction, found, canTurn, mark, notes, shape } = flow, walls = cells.isBuilt ? kernel.solid.slice() : null;
-    if (direction !== this.direction) [this.mean, velocity.mean].forEach((mean) => mean.turn());
+    const { direction, found, canReverse, mark, notes, shape } = flow, walls = cells.isBuilt ? kernel.solid.slice() : null;
+    if (direction !== this.direction) [this.mean, velocity.mean].forEach((mean) => mean.reverse());
     this.direction = direction;
     if (walls) {
       velocity.look();
@@ -117,9 +117,9 @@ export class Watched {
     flow.notes = [];
     return {
       gas: gas.name, apart: gas.apart, directions: gas.directions, width: cells.width, height: cells.height,
-      per: kernel.per, chirality, generation, direction, found, canTurn, mark, notes, fluid, particles,
+      per: kernel.per, chirality, generation, direction, found, canReverse, mark, notes, fluid, particles,
       origin: history.origin.generation, isCut: history.isCut,
-      // means over time, before particles are turned, and of the momentum that is added per fluid cell and generation
+      // means over time, before particles are flipped, and of the momentum that is added per fluid cell and generation
       u: blown ?? (px * gas.units[0]) / all, force,
       v: (py * gas.units[1]) / all, wind: drive.wind,
       fastest, blockage, incoming, velocity: { columns, rows, width, height, u, v },

@@ -25,7 +25,7 @@ const TABLE = {
 /** How far a row of a gas lies to the east. */
 export const eastOf = ({ apart }, row) => (apart < 1 ? (row & 1) / 2 : 0);
 
-/** What follows: among others the distance of rows, the speed of sound, and the directions turned back. */
+/** What follows: among others the distance of rows, the speed of sound, and the opposite directions. */
 function gasOf(name, row = TABLE[name]) {
   const { momenta, units: [east, apart] } = row, isHexagonal = apart < 1, directions = momenta.length;
   const sound = Math.sqrt(momenta.reduce((sum, [x]) => sum + (x * east) ** 2, 0) / directions);
@@ -49,8 +49,8 @@ export const velocities = ({ momenta, units }) => momenta.map(([x, y]) => [x * u
 /** What is made of every state. A solid cell stays. */
 export const table = (ofState) => Uint8Array.from({ length: 256 }, (_, state) => (state < SOLID ? ofState(state) : state));
 
-export const turns = ({ opposite }) =>
-  table((state) => opposite.reduce((turned, to, i) => turned | (state >> i & 1) << to, 0));
+export const reversedStates = ({ opposite }) =>
+  table((state) => opposite.reduce((reversed, to, i) => reversed | (state >> i & 1) << to, 0));
 
 /** The chances of Fermi and Dirac at a filling and a velocity: h and q are changed until number and momentum fit. */
 export function equilibrium(gas, filling, u = 0, v = 0) {

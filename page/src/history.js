@@ -7,8 +7,8 @@ export const CELL = 512, WAS_SOLID = 256;
 
 /**
  * @typedef {import("./cells.js").Cells} Cells
- * @typedef {{ generation: number, flips: number[], strokes: Set<import("./tools.js").Stroke>, turning?: Chirality }} Patch
- *   CELL times a cell, with its bits, and WAS_SOLID; or how pairs turned before
+ * @typedef {{ generation: number, flips: number[], strokes: Set<import("./tools.js").Stroke>, sideBefore?: Chirality }} Patch
+ *   CELL times a cell, with its bits, and WAS_SOLID; or the chirality before a change of it
  * @typedef {{ generation: number, kept: ReturnType<Cells["kept"]>, patches: Patch[], bytes: number }} Segment
  *   the cells of a generation, and what was done from then on
  */
@@ -44,14 +44,14 @@ export class History {
     this.segments.splice(0, this.segments.length - MOST_SEGMENTS);
   }
 
-  open(generation, cells, turning) {
+  open(generation, cells, sideBefore) {
     if (this.top.bytes > this.most / MOST_SEGMENTS && this.top.generation < generation) this.grow(generation, cells);
-    this.top.patches.push({ generation, flips: [], strokes: new Set(), turning });
+    this.top.patches.push({ generation, flips: [], strokes: new Set(), sideBefore });
     this.top.bytes += PATCH;
   }
 
   flip(generation, cells, at, bits) {
-    if (this.last?.generation !== generation || this.last.turning) this.open(generation, cells);
+    if (this.last?.generation !== generation || this.last.sideBefore) this.open(generation, cells);
     this.last.flips.push(CELL * at + bits + (bits & SOLID && cells.isSolid(at) ? WAS_SOLID : 0));
     this.top.bytes += FLIP;
   }

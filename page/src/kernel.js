@@ -1,6 +1,6 @@
 // The kernel: WebAssembly with the calls of include/fhpgas.h, which owns a lattice's planes and advances them.
 import { Cells } from "./cells.js";
-import { SOLID, table, turns } from "./gases.js";
+import { SOLID, reversedStates, table } from "./gases.js";
 import { bits } from "./sums.js";
 
 const PUSH = 3; // numbers of an entry of Kernel.pushes
@@ -129,10 +129,10 @@ export class Kernel {
 
 /** What a collision to a side makes of every state: a particle that would leave a cell between walls comes back. */
 function collisions({ module, gas }, side) {
-  const kernel = new Kernel(module, gas, 2 * SOLID, 1), cells = new Cells(kernel), turned = turns(gas);
+  const kernel = new Kernel(module, gas, 2 * SOLID, 1), cells = new Cells(kernel), reversed = reversedStates(gas);
   cells.fill(Uint8Array.from({ length: 2 * SOLID }, (_, at) => (at & 1 ? SOLID : (at / 2) % 2 ** gas.directions)));
   kernel.advance(1, 0, side, 0);
-  return table((state) => turned[cells.state(2 * state)]);
+  return table((state) => reversed[cells.state(2 * state)]);
 }
 
 /** What collisions to both sides make of every state. */

@@ -13,7 +13,7 @@ export const round = (value, digits = 3) =>
 
 /**
  * Boltzmann's shear viscosity, (1 / lambda - 1/2) / 4: collisions undo the share lambda of a shear in a generation. It
- * has an imaginary part if all pairs turn to one side (Frisch and others, Complex Systems 1 (1987) 649).
+ * has an imaginary part if all pairs rotate to one side (Frisch and others, Complex Systems 1 (1987) 649).
  */
 export function viscosity({ share }, d, chirality) {
   const pairs = d * (1 - d) ** 3, re = share(d) * pairs;

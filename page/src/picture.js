@@ -64,13 +64,13 @@ function paintMarks(c, { mark, generation, width, height, apart }, scale) {
   for (const { from, to: [x, y], radius, solid } of marks.pieces) {
     line(c, [from, [x + 0.01, y]].map(scaled), solid ? theme.wall : theme.paper, 2 * radius * scale);
   }
-  // nothing is faster than a cell per generation: what a turned particle can have changed lies in this circle
+  // nothing is faster than a cell per generation: what a flipped particle can have changed lies in this circle
   const reach = mark && { at: mark.at, radius: Math.abs(generation - mark.generation) + 1.5 };
   for (const disc of [marks.probe, marks.touched, marks.cursor]) if (disc) paintDisc(c, scaled(disc.at), disc.radius * scale);
   if (!reach || reach.radius >= width) return;
   within(c, -scale, -scale, (width + 1) * scale, (height * apart + 1) * scale, () => {
-    for (const turn of [-1, 0, 1]) { // it goes on at the other end
-      paintDisc(c, scaled([reach.at[0] + turn * width, reach.at[1]]), reach.radius * scale);
+    for (const lap of [-1, 0, 1]) { // it goes on at the other end
+      paintDisc(c, scaled([reach.at[0] + lap * width, reach.at[1]]), reach.radius * scale);
     }
   });
 }

@@ -1,4 +1,4 @@
-// The screen: each frame of the worker is painted once, in its turn. Words change less often, and all at once.
+// The screen: each frame of the worker is painted once, in turn. Words change less often, and all at once.
 import { writeAddress } from "./address.js";
 import { paintChart } from "./chart.js";
 import { showControls } from "./controls.js";

@@ -24,14 +24,14 @@ export function take({ frames, serial, asked: number, undoes, isRunning, strokes
     if (frame.notes.length) marks.touched = null;
     if (number === asked.starts) for (const text of frame.notes) note(text, "", 9); // else of cells that are going
   });
-  if (before && direction > before.direction) turnedForwards(frames[0]);
+  if (before && direction > before.direction) runsForwards(frames[0]);
   if (isMoved) sample(frames[0]);
   tellReturn(before);
   if (isMoved && shown.isRunning && isSlow()) move();
 }
 
 /** Time runs forwards again, perhaps from cells that never were before. */
-function turnedForwards({ wind, chirality, gas, origin, generation }) {
+function runsForwards({ wind, chirality, gas, origin, generation }) {
   if (origin === generation) marks.samples = [];
   Object.entries({ keep: wind !== null, chirality, gas }).forEach(([id, value]) => setControl(id, value));
 }
@@ -71,7 +71,7 @@ function beginAnew(state, isLate) {
   Object.assign(marks, { samples: [], pieces: [], probe: null, touched: null });
   shown.times = [];
   shown.frames.forEach((frame, k) => panes[k].tracers.spread(frame));
-  turnedForwards(head());
+  runsForwards(head());
   fit();
   Object.assign(asked, { at: null, probe: null, refused: [] });
   if (probe) setProbe({ at: [probe[0], probe[1]], radius: probe[2] });

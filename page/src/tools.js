@@ -1,4 +1,4 @@
-// What the mouse does to a gas: obstacles are drawn, erased and cleared, a disc gets dense, one particle is turned.
+// What the mouse does to a gas: obstacles are drawn, erased and cleared, a disc gets dense, one particle is flipped.
 import { SOLID } from "./gases.js";
 import { count } from "./numbers.js";
 
@@ -91,14 +91,14 @@ export function dense(flow, { at, radius }) {
   return undoing(flow, flips, "burst", before);
 }
 
-/** Turns the particle that is nearest to a place and has room, and returns what undoes it. */
+/** Flips the particle that is nearest to a place and has room, and returns what undoes it. */
 export function flipOne(flow, place) {
-  const { cells, turned } = flow;
+  const { cells, reversed } = flow;
   for (let radius = 1; radius < 20; radius++) {
     for (const at of cells.near(place, place, radius)) {
-      const state = cells.state(at), free = state < SOLID ? state & ~turned[state] : 0, alone = free & -free;
+      const state = cells.state(at), free = state < SOLID ? state & ~reversed[state] : 0, alone = free & -free;
       if (!alone) continue;
-      const before = { ...flow }, flips = [[at, alone | turned[alone]]];
+      const before = { ...flow }, flips = [[at, alone | reversed[alone]]];
       flow.edit(flips);
       flow.isDisturbed ||= flow.isMessage;
       flow.mark = { at: cells.placeOf(at), generation: flow.generation };
