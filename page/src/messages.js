@@ -25,7 +25,7 @@
  * @typedef {{
  *   engine: { text: string, isProved: boolean }, open: { text: string, state: string },
  *   start: { starts: Start[], state: string, asked?: number }, gas: { gas: string, starts: Start[], state: string },
- *   chirality: { chirality: Chirality }, keep: { wind: number | null }, run: { on: boolean, pace: number },
+ *   chirality: { chirality: Chirality }, keep: { wind: number | null }, run: { on: boolean, pace: number, asked: number },
  *   step: {}, back: {}, turn: {}, undo: {}, clear: {}, save: {}, seen: {}, hash: { isWanted: boolean },
  *   view: View, stroke: Piece, dense: Disc, flip: Disc, probe: Disc,
  * }} Commands
@@ -33,11 +33,12 @@
 
 /**
  * What the worker says, by name. `serial` counts the starts, `asked` is the number of the last one that the page asked
- * for, `strokes` the pieces that came since the last frame, `undoes` says what undo takes back. A scene that is refused changes nothing.
+ * for, `runs` of the last run, `strokes` the pieces since the last frame, `undoes` what undo takes back. A scene that is
+ * refused changes nothing.
  * @typedef {{
  *   engine: { fault: string, isProved: boolean },
- *   frames: { frames: Frame[], isRunning: boolean, serial: number, asked: number, state: string, strokes: number,
- *     undoes: string, hashes?: string[] },
+ *   frames: { frames: Frame[], isRunning: boolean, runs: number, serial: number, asked: number, state: string,
+ *     strokes: number, undoes: string, hashes?: string[] },
  *   files: { files: { text: string, name: string }[] }, hashes: { hashes: string[] },
  *   fault: { fault: string, isRefused: boolean },
  * }} Answers

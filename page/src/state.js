@@ -24,8 +24,8 @@ export const look = { place: { x: 0, y: 0, scale: 0 }, isWhole: true, sent: "", 
 export const chosen = { preset: "", field: "vorticity", tool: "draw", isTool: false, text: "" };
 export const preset = () => PRESETS[chosen.preset];
 
-/** What was asked of the worker: starts, of which it may not have made the last, and what an address wants of it. */
-export const asked = { starts: 0, at: /** @type {number[] | null} */ (null),
+/** What was asked of the worker: starts and runs, of which it may not have made the last, and what an address wants of it. */
+export const asked = { starts: 0, runs: 0, at: /** @type {number[] | null} */ (null),
   probe: /** @type {number[] | null} */ (null), refused: /** @type {string[]} */ ([]) };
 
 /** A generation in pictures: phase 0 before the collision, 1 after it, 2 at its end. */

@@ -10,11 +10,12 @@ import { asked, element, head, marks, motion, shown } from "./state.js";
 import { isSlow, move, setRunning } from "./time.js";
 import { hideNotes, introduce, note } from "./words.js";
 
-export function take({ frames, serial, asked: number, undoes, isRunning, strokes, state, hashes = [] }) {
+export function take({ frames, serial, asked: number, undoes, isRunning, runs, strokes, state, hashes = [] }) {
   const isNew = serial !== shown.serial, before = isNew ? null : head(), { generation, direction } = frames[0];
   if (undoes !== shown.undoes || direction !== before?.direction) screen.toldAt = 0;
   const isMoved = generation !== before?.generation;
-  Object.assign(shown, { frames, serial, undoes, hashes, isRunning: isSlow() ? shown.isRunning : isRunning });
+  Object.assign(shown, { frames, serial, undoes, hashes });
+  if (!isSlow() && runs === asked.runs) shown.isRunning = isRunning; // else of a frame that was under way
   marks.pieces.splice(0, strokes);
   if (isNew) beginAnew(state, number < asked.starts);
   if (isMoved) Object.assign(motion, { phase: 0, isOn: false });

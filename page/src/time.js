@@ -1,11 +1,11 @@
 // How time goes on: the worker runs alone, or at a slow pace the page shows every generation and asks for the next.
 import { repaint, update } from "./screen.js";
-import { $, motion, shown, tell } from "./state.js";
+import { $, asked, motion, shown, tell } from "./state.js";
 
 export const isSlow = () => $("pace").value.endsWith(" s");
 
 export function go(on) {
-  tell("run", { on: on && !isSlow(), pace: parseFloat($("pace").value) || Infinity });
+  tell("run", { on: on && !isSlow(), pace: parseFloat($("pace").value) || Infinity, asked: ++asked.runs });
   setRunning(on);
 }
 

@@ -28,7 +28,7 @@ const actsOf = (work, experiment) => ({
       work.post("fault", { fault: /** @type {Error} */ (fault).message, isRefused: true });
     }
   },
-  run: ({ on, pace }) => Object.assign(work, { isRunning: on, pace, since: performance.now() }),
+  run: ({ on, pace, asked }) => Object.assign(work, { isRunning: on, pace, runs: asked, since: performance.now() }),
   step: () => (work.isStep = true),
   back: () => experiment.reverse((flow) => flow.back()),
   turn: () => experiment.reverse((flow) => flow.reverse()),
@@ -56,6 +56,7 @@ class Work {
   /** @type {View} */
   view = { field: "vorticity", block: 8, smooth: 2, span: 1, window: null };
   isRunning = false;
+  runs = 0; // the last that the page asked for
   isStep = false; // one generation is wanted
   isBusy = false;
   isNew = false; // there is something to show
@@ -140,13 +141,13 @@ class Work {
   }
 
   frame() {
-    const { experiment: { watched, serial, asked, state, past, make }, isRunning, pieces: strokes } = this;
+    const { experiment: { watched, serial, asked, state, past, make }, isRunning, runs, pieces: strokes } = this;
     if (this.view.field === "difference") watched.forEach((one) => one.renew(make));
     const begun = performance.now(), frames = watched.map((one) => one.frame(this.view, this.generations));
     this.drawn = performance.now() - begun;
     this.generations = this.pieces = 0;
     this.sent++;
-    this.post("frames", { frames, isRunning, serial, asked, state, strokes, undoes: past[past.length - 1]?.what ?? "" });
+    this.post("frames", { frames, isRunning, runs, serial, asked, state, strokes, undoes: past[past.length - 1]?.what ?? "" });
     if (!isRunning && this.isHashWanted) this.hash();
   }
 

@@ -487,7 +487,9 @@ def test_moves(page):
         x = moved
     send("Key", **space | {"type": "keyUp"})
     assert page.now(f"solid === {solid} && shown.isRunning"), "nothing was drawn, and it still runs"
-    page.key(Keys.SPACE), page.wait("!shown.isRunning")
+    page.js("const { take } = screen; screen.take = (next) => take(next, (window.late ??= next))")
+    page.wait("window.late"), page.key(Keys.SPACE), page.wait("!shown.isRunning")
+    assert page.js("screen.take(late); return !shown.isRunning"), "a late frame runs nothing"
     page.key(Keys.SPACE), page.wait("shown.isRunning")
     page.choose("change", pace="300/s")
     for delta, pace in (-2400, "1 s"), (2400, "300/s"):
