@@ -58,8 +58,12 @@ class Page:
         return self.js(f"return {value}")
 
     def wait(self, condition):
-        waits = WebDriverWait(self.driver, needs.PATIENCE, 0.02)
-        return waits.until(lambda _: self.now(condition), f"{condition} did not come")
+        """Waits for what may be true for some frames only, so the page itself looks."""
+        return self.driver.execute_async_script(
+            f"const [done] = arguments, found = () => {{ {NAMES} return {condition}; }},"
+            " look = () => { const it = found(); it ? done(it) : setTimeout(look); };"
+            " look();"
+        )
 
     def choose(self, *events, **values):
         """Sets controls, with these events."""
