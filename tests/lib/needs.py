@@ -16,7 +16,7 @@ import sys
 
 ROOT = pathlib.Path(__file__).resolve().parents[2]
 LEFT_OUT = 77  # the exit status of a bash script that left something out
-PATIENCE = 1800  # seconds after which a test gives up on what never takes as long
+PATIENCE = 900  # seconds after which a test gives up on what never takes as long
 # rt refuses a repository with a link in it, and a virtual environment has one
 CACHE = pathlib.Path(os.environ.get("XDG_CACHE_HOME") or "~/.cache").expanduser()
 VENV = CACHE / "fhpgas-tests"
