@@ -1,10 +1,11 @@
 """The lattice of a scene by docs/FORMATS.md only, slow on large ones: what `check` and `run
 --generations 0` must print. The module `needs` puts the package on the path."""
-import itertools
 import struct
 
+import pytest
 from fhpgas.reader import STATES, Refused, covering, read as keys_of
 
+ciphers = pytest.importorskip("cryptography.hazmat.primitives.ciphers")
 __all__ = ["Lattice", "Refused", "read"]
 
 
@@ -62,24 +63,7 @@ def area_rows(table):
 
 
 def key_words(seed, stream, count):
-    """The first words of a stream of a seed's key stream."""
-    blocks = (chacha_block(seed, stream, block) for block in range((count + 15) // 16))
-    return [word for block in blocks for word in block][:count]
-
-
-def chacha_block(seed, stream, block):
-    """The 16 words of a block of ChaCha20 under the key of a seed, with a 64-bit block number and a 64-bit stream number."""
-    start = [
-        *struct.unpack("<4I", b"expand 32-byte k"),
-        *struct.unpack("<8I", seed.to_bytes(8, "little") + bytes(24)),
-        *struct.unpack("<4I", struct.pack("<QQ", block, stream)),
-    ]
-    words = start[:]
-    for _ in range(10):
-        for turn, k in itertools.product((0, 1), range(4)):  # the columns, and then the diagonals
-            a, b, c, d = (4 * row + (k + turn * row) % 4 for row in range(4))
-            for here, other, turned, by in (a, b, d, 16), (c, d, b, 12), (a, b, d, 8), (c, d, b, 7):
-                words[here] = words[here] + words[other] & 0xFFFFFFFF
-                mixed = words[turned] ^ words[here]
-                words[turned] = (mixed << by | mixed >> 32 - by) & 0xFFFFFFFF
-    return [word + before & 0xFFFFFFFF for word, before in zip(words, start)]
+    """The first words of a stream of a seed's key stream. What OpenSSL takes for the place is the block and the stream, of 64 bits each."""
+    key, place = seed.to_bytes(8, "little") + bytes(24), bytes(8) + stream.to_bytes(8, "little")
+    cipher = ciphers.Cipher(ciphers.algorithms.ChaCha20(key, place), None)
+    return struct.unpack(f"<{count}I", cipher.encryptor().update(bytes(4 * count)))
