@@ -1,5 +1,4 @@
-//! Tries the crate `fhpgas` from outside, as safe code: by lone particles, in parts, and with random
-//! arguments, of which none may panic. ROUNDS says how many.
+//! Tries the crate `fhpgas` from outside, as safe code: in parts, and with random arguments, of which none may panic. ROUNDS says how many.
 #![forbid(unsafe_code)]
 use fhpgas::{Chirality, Error, Gas, Lattice, Sums};
 use std::collections::BTreeSet;
@@ -30,33 +29,6 @@ impl Random {
 
 fn rounds() -> u64 {
     std::env::var("ROUNDS").map_or(300, |text| text.parse().unwrap())
-}
-
-/// Where a particle goes from column x of row y in a direction, by the geometry of the gas.
-fn next(gas: Gas, direction: u32, x: i64, y: i64) -> (i64, i64) {
-    let odd = y & 1;
-    match (gas, direction) {
-        (Gas::Hpp, _) => [(x + 1, y), (x, y - 1), (x - 1, y), (x, y + 1)][direction as usize],
-        (_, 6) => (x, y),
-        _ => [(x + 1, y), (x + odd, y - 1), (x - 1 + odd, y - 1), (x - 1, y), (x - 1 + odd, y + 1), (x + odd, y + 1)]
-            [direction as usize],
-    }
-}
-
-#[test]
-fn one_particle_flies_straight() {
-    for gas in [Gas::Fhp1, Gas::Hpp, Gas::FhpRest] {
-        for direction in 0..gas.directions() {
-            let (mut x, mut y) = (70, 20);
-            let mut states = vec![0; 150 * 41];
-            states[y as usize * 150 + x as usize] = 1 << direction;
-            let mut lattice = Lattice::new(gas, Chirality::Left, (150, 41), &states, &[0; 150 * 41]).unwrap();
-            lattice.run(15).unwrap();
-            (0..15).for_each(|_| (x, y) = next(gas, direction, x, y));
-            assert_eq!(lattice.states()[y as usize * 150 + x as usize], 1 << direction);
-            assert_eq!(lattice.profile().unwrap()[y as usize].particles, 1);
-        }
-    }
 }
 
 #[test]
@@ -96,6 +68,7 @@ fn planes_blocks_and_parts_of_runs_agree() {
         assert_eq!(found.iter().map(|it| (it.fluid, it.particles)).collect::<Vec<_>>(), wanted);
         let total = |sums: &[Sums]| sums.iter().map(|it| (it.east, it.north)).fold((0, 0), |a, b| (a.0 + b.0, a.1 + b.1));
         assert_eq!(total(&found), total(&once.profile().unwrap()));
+        assert_eq!(once.profile(), once.blocks(width, 1));
     }
 }
 

@@ -26,13 +26,15 @@ cat > "$room/new/src/main.rs" << 'END'
 #![forbid(unsafe_code)]
 use fhpgas::{Chirality, Gas, Lattice};
 
-/// The lattice of a scene that is a map of 24 columns, some generations later, as the program prints it.
+/// The lattice of a gas in a scene that is a map of 24 columns, some generations later, as the program prints it.
 fn main() -> Result<(), fhpgas::Error> {
-    let mut states: Vec<u8> = (0..24 * 10).map(|i| (i * 37 % 64) as u8).collect();
+    let [gas, generations] = [1, 2].map(|n| std::env::args().nth(n).unwrap());
+    let gas = [Gas::Fhp1, Gas::Hpp, Gas::FhpRest][["fhp1", "hpp", "fhp-rest"].iter().position(|name| *name == gas).unwrap()];
+    let mut states: Vec<u8> = (0..24 * 10).map(|i| (i * 37 % (1 << gas.directions())) as u8).collect();
     let solid: Vec<u8> = (0..24 * 10).map(|i| u8::from(i % 31 == 5)).collect();
     states.iter_mut().zip(&solid).for_each(|(state, solid)| *state *= 1 - solid);
-    let mut lattice = Lattice::new(Gas::Fhp1, Chirality::Seeded(11), (24, 10), &states, &solid)?;
-    lattice.run(std::env::args().nth(1).and_then(|word| word.parse().ok()).unwrap_or(0))?;
+    let mut lattice = Lattice::new(gas, Chirality::Seeded(11), (24, 10), &states, &solid)?;
+    lattice.run(generations.parse().unwrap())?;
     for (row, solid) in lattice.states().chunks(24).zip(solid.chunks(24)) {
         let cell = |(state, solid): (&u8, &u8)| match (state, solid) {
             (_, 1) => "##".to_string(),
@@ -47,9 +49,11 @@ END
 cargo_in "$room/new" add --path "$room/packed" --no-default-features
 try 'a new project takes it' cargo_in "$room/new" build
 new=$room/new/target/debug/new
-{ printf 'gas = "fhp1"\nseed = 11\ncells = [\n' && "$new" | sed 's/.*/"&",/' && echo ']'; } > "$room/scene.toml"
-for generations in 0 1 2 50 333; do
-    try "its cells of generation $generations are the program's" \
-        diff <("$new" $generations) <("$program" run --generations $generations < "$room/scene.toml" | tail -n +2)
+for gas in fhp1 hpp fhp-rest; do
+    { printf 'gas = "%s"\nseed = 11\ncells = [\n' $gas && "$new" $gas 0 | sed 's/.*/"&",/' && echo ']'; } > "$room/scene.toml"
+    for generations in 0 1 2 50 333; do
+        try "its cells of generation $generations of $gas are the program's" \
+            diff <("$new" $gas $generations) <("$program" run --generations $generations < "$room/scene.toml" | tail -n +2)
+    done
 done
 tell
