@@ -59,12 +59,7 @@ def checked():
 @pytest.fixture(scope="session")
 def tool():
     """Skips a test if a command is missing."""
-
-    def is_here(name):
-        if not shutil.which(name):
-            pytest.skip(f"{name} is missing")
-
-    return is_here
+    return lambda name: shutil.which(name) or pytest.skip(f"{name} is missing")
 
 
 @pytest.fixture(scope="session")
@@ -90,9 +85,4 @@ def by_bytes(compiled):
 @pytest.fixture(scope="session")
 def memory():
     """Skips a test if so many gigabytes are not free."""
-
-    def is_free(gigabytes):
-        if needs.free_memory() < gigabytes << 30:
-            pytest.skip(f"{gigabytes} GB of memory are not free")
-
-    return is_free
+    return lambda least: needs.free_memory() >= least << 30 or pytest.skip("too little memory")
