@@ -1,7 +1,6 @@
 """Tests how the program is found and ended, runs side by side, the examples of docstrings, and costs."""
 
 import concurrent.futures
-import contextlib
 import doctest
 import inspect
 import io
@@ -44,12 +43,6 @@ def long_run(number):
     return late.particles
 
 
-def end(number, processes):
-    for process in processes:
-        with contextlib.suppress(ProcessLookupError):
-            os.kill(int(process), number)
-
-
 def is_function(value):
     return inspect.isfunction(value) or inspect.ismethod(value)
 
@@ -67,15 +60,10 @@ def spent(call, rows):
 
 
 def programs_of(of, number):
-    """The processes of the program of a session, "sid", or a parent, "ppid", which have not ended.
+    """The processes of the program of a session, `-s`, or a parent, `-P`, which have not ended.
     A session that was begun outside of a container has no number in it."""
-    words = ["ps", "-e", "-o", f"pid=,{of}=,stat=,comm="]
-    lines = subprocess.run(words, capture_output=True, text=True, check=True).stdout.splitlines()
-    return {
-        pid
-        for pid, owner, state, name, *_ in map(str.split, lines)
-        if name == "fhpgas" and state[0] != "Z" and int(owner) == number
-    }
+    words = ["pgrep", "-x", "-r", "D,R,S,T,t", of, str(number), "fhpgas"]
+    return {*subprocess.run(words, capture_output=True, text=True).stdout.split()}
 
 
 def test_the_program_is_found(tmp_path):
@@ -120,14 +108,10 @@ def test_a_plan_is_chosen_from_the_cores_of_the_process():
 
 def test_bars_count_the_parts_that_are_asked_for(tmp_path):
     """And nothing else is written, also on a terminal."""
-
-    class Terminal(io.StringIO):
-        def isatty(self):
-            return True
-
     start = wind((64, 47))
     for progress in ({}, {"progress": True}):
-        with mock.patch.object(sys, "stderr", Terminal()) as terminal:
+        with mock.patch.object(sys, "stderr", io.StringIO()) as terminal:
+            terminal.isatty = lambda: True
             kept = tmp_path / str(progress)
             parts = start.every(1, 3, **progress), start.driven(6, 2, force=0.001, **progress)
             parts = *parts, start.long_run(5, 1, kept, **progress)
@@ -170,9 +154,9 @@ def test_a_member_that_fails_or_is_killed_and_an_interrupt_end_all_runs():
 
     def killed(number):
         if number == 2:
-            while not (found := programs_of("ppid", os.getpid())):
+            while not (found := programs_of("-P", os.getpid())):
                 particles_of(number)  # which ends this member too if another has failed
-            end(signal.SIGKILL, found)
+            subprocess.run(["kill", "-KILL", *found], stderr=subprocess.DEVNULL)
         return long_run(number)
 
     def interrupted(number):
@@ -186,7 +170,7 @@ def test_a_member_that_fails_or_is_killed_and_an_interrupt_end_all_runs():
         with pytest.raises(raised) as found, four:
             fhpgas.side_by_side(function, range(6))
         assert raised is not Own or found.value is own
-        assert programs_of("ppid", os.getpid()) == set()
+        assert programs_of("-P", os.getpid()) == set()
 
 
 @pytest.mark.parametrize("is_stopped", (False, True))
@@ -204,7 +188,7 @@ def test_a_signal_to_the_parent_ends_the_programs_too(number, call, is_stopped):
     words = [sys.executable, "-c", script + call]
     known = dict(stderr=subprocess.PIPE, text=True, start_new_session=True)
     with subprocess.Popen(words, **known) as process:
-        while not (runs := programs_of("sid", process.pid)):
+        while not (runs := programs_of("-s", process.pid)):
             assert process.poll() is None
             time.sleep(0.01)
         if is_stopped:
@@ -214,7 +198,7 @@ def test_a_signal_to_the_parent_ends_the_programs_too(number, call, is_stopped):
         process.send_signal(signal.SIGCONT)
         said = process.communicate()[1]
         assert ("KeyboardInterrupt" in said) == (number == signal.SIGINT)
-    while runs & programs_of("sid", process.pid):
+    while runs & programs_of("-s", process.pid):
         time.sleep(0.01)
 
 
