@@ -8,7 +8,6 @@ import pytest
 
 needs.built_program()
 import fhpgas  # noqa: E402 - finds the program by the line above
-from fhpgas import refusals  # noqa: E402
 
 AREA, LINE = 'gas = "fhp1"\nwidth = 3\nheight = 3\n', "scene: "
 # A scene, the line that refuses it, and a part of the reason.
@@ -18,8 +17,6 @@ gas = "hpp"\ncells = ["01",\n | not TOML | end of document: Invalid value: a val
 cells = [".."]\ngas = | not TOML | end of document: Invalid value: a value is missing, or the bracket that closes a list
 gas = "FHP-II"\ncells = [".."]\n | out of range | `gas` is "FHP-II"; its name here is `fhp-rest`
 gas = "fhp2"\ncells = [".."]\n | out of range | `gas` is "fhp2"; its name here is `fhp-rest`
-gas = "FHP2"\ncells = [".."]\n | out of range | `gas` is "FHP2"; its name here is `fhp-rest`
-gas = "fhp-2"\ncells = [".."]\n | out of range | `gas` is "fhp-2"; its name here is `fhp-rest`
 gas = "FHP-I"\ncells = [".."]\n | out of range | `gas` is "FHP-I"; its name here is `fhp1`
 gas = "HPP"\ncells = [".."]\n | out of range | `gas` is "HPP"; its name here is `hpp`
 gas = "FHP-III"\ncells = [".."]\n | out of range | there is none here, only `fhp1`
@@ -60,8 +57,3 @@ def test_a_refused_scene_is_explained(case):
     words = [sys.executable, "-I", "-S", "-c", BARE, needs.ROOT / "python", text]
     bare = subprocess.run(words, capture_output=True, text=True)
     assert bare.stdout == told and "fhpgas.draw_gas needs numpy" in bare.stderr
-
-
-@pytest.mark.parametrize("path", sorted((needs.ROOT / "scenes").glob("*.toml")), ids=str)
-def test_a_scene_that_is_kept_is_not_refused(path):
-    assert fhpgas.explain(path) == refusals.NOT_REFUSED

@@ -186,12 +186,6 @@ LIMITS = {
 }
 
 
-def prefixes(name):
-    """Every prefix of a scene."""
-    text = (needs.ROOT / f"scenes/{name}.toml").read_bytes()
-    return [text[:length] for length in range(len(text) + 1)]
-
-
 def areas():
     """Areas in both versions with the integers at the edges of 64 bits and of their ranges, past
     them and as other values."""
@@ -234,8 +228,7 @@ def text_of(rng, printed):
     return mutated(rng, scene(rng))
 
 
-GIVEN = {name: prefixes(name) for name in ("drift", "obstacle", "square")}
-GIVEN |= {"areas": [*areas()], "maps": [*maps()]}
+GIVEN = {"areas": [*areas()], "maps": [*maps()]}
 
 
 @pytest.mark.parametrize("name", GIVEN)
