@@ -271,27 +271,12 @@ def on_threads(words):
             yield from ([*short, threads] for threads in "12")
 
 
-def lone_particle(size, place, words):
-    """A run that begins with a particle that moves east, and its cells."""
-    (width, height), (x, y) = size, place
-    scene = f'version = 2\ngas = "fhp1"\nchirality = "left"\nwidth = {width}\nheight = {height}\n'
-    generations = int(words[words.index("--generations") + 1])
-    rows, x_then = [".." * width] * height, (x + generations) % width
-    rows[y] = ".." * x_then + "01" + ".." * (width - 1 - x_then)
-    told = f"generation {generations} particles 1\n" + "\n".join([*rows, ""])
-    return words, f"{scene}particles = [[{x}, {y}, 1]]\n", told
-
-
 def lone_particles():
-    """From the last of the most columns to the first, and through lines of everyday length."""
-    for generations in "01":
-        for words in on_threads(["run", "--generations", generations]):
-            yield lone_particle((65536, 1), (65535, 0), words)
-    for plan in "4096 --capacity 128 --threads 2", "37 --capacity 1 --threads 3":
-        words = f"run --stages 16 --generations {plan}".split()
-        yield lone_particle((7, 1024), (0, 511), words)
-    for plan in "3 --threads 8", "40 --threads 4", "65 --threads 4", "130 --threads 64":
-        yield lone_particle((7, 64), (0, 31), f"run --generations {plan}".split())
+    """A particle that moves east from the last of the most columns to the first."""
+    area = 'version = 2\ngas = "fhp1"\nchirality = "left"\nwidth = 65536\nheight = 1\nparticles = [[65535, 0, 1]]\n'
+    for generation, row in ("0", ".." * 65535 + "01"), ("1", "01" + ".." * 65535):
+        for words in on_threads(["run", "--generations", generation]):
+            yield words, area, f"generation {generation} particles 1\n{row}\n"
 
 
 def is_like(came, wanted):
