@@ -47,7 +47,6 @@ REFUSED = """\
 2 numbers --length 0 --filling 0.2 --speed 0.1 | --length
 2 numbers --filling 0.2 --speed 0.1 --length inf | inf
 2 picture speed a.png a.toml --low nan | nan
-2 picture speed a.png a.toml --low inf | inf
 2 picture speed a.png a.toml --low 1 --high 0 | --low 1 is not below --high 0
 2 picture speed a.jpg a.toml | a.jpg is written as .png
 2 picture heat a.png a.toml | heat
@@ -77,13 +76,10 @@ REFUSED = """\
 2 draw discs --disc 0 0 -1 | -1
 2 draw porous --share 1.01 | 1.01
 2 draw polygons --polygon nan 1 2 3 4 5 | nan
-2 draw polygons --polygon inf 1 2 3 4 5 | inf
 2 draw polygons --polygon 1 2 3 4 5 6 7 | two numbers each
 2 draw bitmap a.png --pixel 1e308 | 1e308
 2 draw blocks --rate 200 | --rate
 2 draw nozzle --throat x | x
-2 drive a.toml 10 5 --force nan | nan
-2 drive a.toml 10 5 --flow nan | nan
 2 drive a.toml 10 5 | --force or --flow
 2 drive a.toml 10 3 --flow 0.1 | no multiple
 2 drive a.toml 10 0 --flow 0.1 | 0
@@ -279,7 +275,6 @@ def test_the_parser_knows_the_names_of_the_package():
         ("explain -", 1, "scene: not TOML\n"),
         ("explain a.toml", 0, "not refused"),
         ("--version", 0, fhpgas.__version__),
-        ("film a.toml a.gif --every 1 --until 1", 1, "lacks the package numpy"),
     ),
 )
 def test_refused_scenes_are_explained_without_numpy(words, status, part):

@@ -99,7 +99,6 @@ polygon(Size(9, 9), [(0, 0), (1, inf), (1, 1)])     at most 1e+06 away, not [(0,
 porous(Size(9, 9), 30, 1)                           the share of solid cells is a number from 0 to 1, not 30
 porous(Size(9, 9), 0.3, 1, np.random.default_rng())  a seed is an integer
 nozzle(Size(64, 24), 6, 65)                         the length of a nozzle is an integer from 1 to 64
-bitmap(Size(64, 40), solid, 1)                      the picture leaves the channel of 64 x 40 cells
 bitmap(Size(64, 48), solid, 1e308)                  a number from 1e-09 to 65536, not 1e+308
 bitmap(Size(64, 40), "no.png")                      no.png: No such file
 bitmap(Size(64, 40), [1, 2, 3])                     not of the shape (3,)
