@@ -11,7 +11,7 @@ import pathlib
 import pty
 import re
 import subprocess
-import threading
+import tempfile
 
 import pytest
 
@@ -25,26 +25,23 @@ HINT = f"{WIPE}fhpgas: --threads T prints the same bytes with T threads (docs/PE
 LONG_RUN = "run", "--generations", "1000000"  # is ended when it has shown enough
 
 
-def read_to_end(terminal, told):
-    """Adds what a terminal shows to the list. A program waits for ever on a terminal that is full, so it is read meanwhile."""
-    with contextlib.suppress(OSError):
-        while part := os.read(terminal, 65536):
-            told.append(part)
-
-
-def on_terminal(program, words):
-    """The status, what came on standard output, and what the terminal showed."""
+def watched(is_enough, *command):
+    """The status, what came on standard output, and what the terminal showed when that was enough, or the run was over."""
     ours, theirs = pty.openpty()
-    pipes = dict(stdin=subprocess.PIPE, stdout=subprocess.PIPE, stderr=theirs)
-    process = subprocess.Popen([program, *words.split()], **pipes)
-    os.close(theirs)
-    told = []
-    reader = threading.Thread(target=read_to_end, args=(ours, told))
-    reader.start()
-    answer, _ = process.communicate(SCENE)
-    reader.join()
-    os.close(ours)
-    return process.returncode, answer, b"".join(told).decode()
+    with tempfile.TemporaryFile() as out:
+        process = subprocess.Popen(command, stdin=subprocess.PIPE, stdout=out, stderr=theirs)
+        os.close(theirs)
+        process.stdin.write(SCENE)
+        process.stdin.close()
+        told = ""
+        with contextlib.suppress(OSError):
+            while not is_enough(told):
+                told += os.read(ours, 65536).decode()
+        process.kill()
+        status = process.wait()
+        os.close(ours)
+        out.seek(0)
+        return status, out.read(), told
 
 
 def tells(told):
@@ -64,7 +61,7 @@ def tells(told):
 def test_progress(program, words):
     plain = subprocess.run([program, *words.split()], input=SCENE, capture_output=True)
     assert plain.returncode == 0 and not plain.stderr
-    status, answer, told = on_terminal(program, words)
+    status, answer, told = watched(lambda told: False, program, *words.split())
     assert (status, answer) == (0, plain.stdout)
     assert tells(told) if str(GENERATIONS) in words else told == ""
 
@@ -83,22 +80,8 @@ def test_scene_that_is_typed(program):
 
 
 def shown_until(is_enough, *command):
-    """What the terminal of a long run showed when that was enough, or the run was over, up to the last line, which may be half."""
-    ours, theirs = pty.openpty()
-    process = subprocess.Popen(
-        command, stdin=subprocess.PIPE, stdout=subprocess.DEVNULL, stderr=theirs
-    )
-    os.close(theirs)
-    process.stdin.write(SCENE)
-    process.stdin.close()
-    told = ""
-    with contextlib.suppress(OSError):
-        while not is_enough(told):
-            told += os.read(ours, 65536).decode()
-    process.kill()
-    process.wait()
-    os.close(ours)
-    return told.rpartition(WIPE)[0]
+    """What the terminal of a long run showed, up to the last line, which may be half."""
+    return watched(is_enough, *command)[2].rpartition(WIPE)[0]
 
 
 def lines_after(said, *command):
