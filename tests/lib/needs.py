@@ -32,11 +32,6 @@ if signal.getsignal(signal.SIGINT) is signal.SIG_IGN:  # as in the background of
     signal.signal(signal.SIGINT, signal.default_int_handler)
 
 
-def stop(what):
-    print(f"{sys.argv[0]}: {what}", file=sys.stderr)
-    sys.exit(2)
-
-
 def built_program(name="fhpgas"):
     """The path of a program: of fhpgas the one that FHPGAS names or an unpacked archive has, of all
     others the one that rt leaves. The programs that a script starts use it too."""
@@ -50,7 +45,7 @@ def built_program(name="fhpgas"):
         if path != own or not is_new:
             os.environ["FHPGAS"] = str(path)
     if not path.exists():
-        stop(f"{path} is missing: run make, or rt run in its crate, or let FHPGAS name one")
+        sys.exit(f"{path} is missing: run make, or rt run in its crate, or let FHPGAS name one")
     return path
 
 
@@ -107,7 +102,7 @@ os.environ.setdefault("CALLERS_PATH", os.environ["PATH"])  # with the caller's R
 here = os.path.dirname(sys.executable)  # for the `python3` of commands
 os.environ["PATH"] = f"{here}:{os.environ['PATH']}"
 if sys.version_info < (3, 11):
-    stop("this Python is too old: run it by Python 3.11 or later")
+    sys.exit("this Python is too old: run it by Python 3.11 or later")
 if __name__ == "__main__":
     has = [f"{name} {importlib.metadata.version(name)}" for name in WANTED if name not in lacking()]
     own = f"Python {sys.version.split()[0]} with {', '.join(has)}"

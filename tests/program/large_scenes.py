@@ -105,11 +105,6 @@ def texts(size):
     yield LARGEST, [area], f"gas hpp width {side} height {side} solid 0 particles 0"
 
 
-def is_plain(program):
-    """Whether plain Rust built the program."""
-    return "not proved" in needs.printed([program, "--version"], b"").decode()
-
-
 def answer(program, path):
     """What the program prints for the text in the file, and its status if that is none of a scene."""
     words = ["sh", "-c", f'ulimit -s {STACK}; exec "$0" check', program]
@@ -128,6 +123,6 @@ def test_text(program, memory, pytestconfig, tmp_path, name):
     with open(tmp_path / "scene", "wb") as file:
         for piece in pieces:
             file.write(piece if isinstance(piece, bytes) else piece.encode())
-    if name in TOO_DEEP and is_plain(program):
+    if name in TOO_DEEP and b"not proved" in needs.printed([program, "--version"]):
         expected = OVERFLOW
     assert answer(program, file.name) == expected
