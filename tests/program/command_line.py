@@ -323,11 +323,6 @@ def test_refused_plan(check, words, line):
     check(words.split(), DRIFT, 1, "", f"{line}\n")
 
 
-@each("text, line", [("", MISSING), ("gas = ", SYNTAX)])
-def test_scene_is_refused_before_plan(check, text, line):
-    check("run --generations 1 --stages 0".split(), text, 1, "", f"{line}\n")
-
-
 @each("words, status, out, err", of_limits())
 def test_limits(check, words, status, out, err):
     check(words, DRIFT, status, out, err)
