@@ -56,11 +56,6 @@ def cases():
         yield drawn(rng, size, GASES[number % len(GASES)]), int(rng.integers(51))
 
 
-def side_by_side(function, values):
-    with concurrent.futures.ThreadPoolExecutor(len(os.sched_getaffinity(0))) as pool:
-        return list(pool.map(function, values))
-
-
 @pytest.mark.sources
 def test_it_has_the_exports_of_the_crate():
     """A slice of the crate is a pointer with a length."""
@@ -117,7 +112,7 @@ def test_cells_are_those_of_the_program():
         lattice, generations = case
         return lattice.run(generations, 1) == fhpgas.run(lattice.scene(), generations, 2)
 
-    assert side_by_side(is_so, cases()) == [True] * LATTICES
+    assert fhpgas.side_by_side(is_so, cases()) == [True] * LATTICES
 
 
 def test_strips_are_the_whole():
@@ -147,7 +142,7 @@ def test_sums_are_those_of_the_program():
         return found == table and np.array_equal(engine.sums(lattice, *block), wanted)
 
     blocks = rng.choice([1, 2, 3, 8, 9, 63, 64, 65, 400, 4096], (LATTICES, 2)).tolist()
-    found = side_by_side(is_so, list(zip(cases(), blocks))[::4])
+    found = fhpgas.side_by_side(is_so, list(zip(cases(), blocks))[::4])
     assert found == [True] * (LATTICES // 4)
 
 

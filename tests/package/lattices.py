@@ -113,7 +113,6 @@ film("a.gif", [])                                   a state or more
 strip([])                                           a state or more
 film("a.avi", [large])                              a film is written as
 plot(AREA)                                          a Lattice or of Blocks
-film("a.gif", [large], block=8)                     two integers
 plot(large, "particles")                            no picture of 'particles'
 film("a.gif", [large], fps=0)                       frames per second
 """
