@@ -86,11 +86,8 @@ def shown_until(is_enough, *command):
 
 def lines_after(said, *command):
     """What a run shows until it has as many lines of progress as the run that said the hint."""
-
-    def is_enough(told):
-        return said.done() and len(LINE.findall(told)) > len(LINE.findall(said.result()))
-
-    return shown_until(is_enough, *command)
+    lines = lambda told: len(LINE.findall(told))
+    return shown_until(lambda told: said.done() and lines(told) > lines(said.result()), *command)
 
 
 def can_choose():
