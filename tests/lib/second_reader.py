@@ -5,7 +5,6 @@ import struct
 import pytest
 from fhpgas.reader import STATES, Refused, covering, read as keys_of
 
-ciphers = pytest.importorskip("cryptography.hazmat.primitives.ciphers")
 __all__ = ["Lattice", "Refused", "read"]
 
 
@@ -64,6 +63,7 @@ def area_rows(table):
 
 def key_words(seed, stream, count):
     """The first words of a stream of a seed's key stream. What OpenSSL takes for the place is the block and the stream, of 64 bits each."""
+    ciphers = pytest.importorskip("cryptography.hazmat.primitives.ciphers")
     key, place = seed.to_bytes(8, "little") + bytes(24), bytes(8) + stream.to_bytes(8, "little")
     cipher = ciphers.Cipher(ciphers.algorithms.ChaCha20(key, place), None)
     return struct.unpack(f"<{count}I", cipher.encryptor().update(bytes(4 * count)))
