@@ -61,8 +61,7 @@ class Page:
         """Waits for what may be true for some frames only, so the page itself looks."""
         return self.driver.execute_async_script(
             f"const [done] = arguments, found = () => {{ {NAMES} return {condition}; }},"
-            " look = () => { const it = found(); it ? done(it) : setTimeout(look); };"
-            " look();"
+            " look = () => { const it = found(); it ? done(it) : setTimeout(look); }; look();"
         )
 
     def choose(self, *events, **values):

@@ -173,6 +173,8 @@ def test_a_lattice_does_not_change_and_is_equal_by_value():
     changes |= {"solid": np.arange(12).reshape(3, 4) == 5, "states": 0 * states}
     for name, value in changes.items():
         assert lattice.replace(**{name: value}) != lattice, name
+    assert lattice.replace(seed=6).states is lattice.states  # nothing that is checked is copied
+    assert lattice.replace(states=0 * states).solid is lattice.solid
     assert dataclasses.replace(blocks, generation=8) != blocks
 
 

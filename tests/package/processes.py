@@ -1,11 +1,10 @@
-"""Tests how the program is found and ended, runs side by side, the examples of docstrings, and costs."""
+"""Tests how the program is found and ended, runs side by side, and the examples of docstrings."""
 
 import concurrent.futures
 import doctest
 import inspect
 import io
 import itertools
-import math
 import os
 import re
 import shutil
@@ -25,7 +24,6 @@ import distributed
 import fhpgas
 import numpy as np
 from fhpgas import Size
-from matplotlib.figure import Figure
 
 SIGNALS = signal.SIGINT, signal.SIGTERM, signal.SIGHUP, signal.SIGKILL
 ROUNDS = 6  # of runs that fail, are killed and are interrupted
@@ -45,18 +43,6 @@ def long_run(number):
 
 def is_function(value):
     return inspect.isfunction(value) or inspect.ismethod(value)
-
-
-def wide(rows):
-    """The corners of a polygon that goes round the channel four hundred times."""
-    return [(-200_000, 0), (200_000, 0), (200_000, rows / 2), (-200_000, rows / 2)]
-
-
-def spent(call, rows):
-    """The processor time of a call."""
-    begun = time.process_time()
-    call(rows)
-    return time.process_time() - begun
 
 
 def programs_of(of, number):
@@ -218,35 +204,3 @@ def test_examples_run_and_public_calls_have_their_sections(tmp_path, monkeypatch
         if is_function(call) and {*inspect.signature(call).parameters} - {"self"}:
             for section in ("Parameters", "Examples"):
                 assert f"\n{section}\n" in inspect.getdoc(call), name
-
-
-@pytest.mark.alone
-def test_costs_grow_as_sizes_do(tmp_path):
-    """A lattice of four times the rows takes at most 2.5^2 times the processor time, at best of up to twenty tries of both in turn."""
-    figure = Figure()
-
-    def lattice(rows):
-        states = np.random.PCG64(1).random_raw(rows * 128).view(np.uint8).reshape(rows, 1024)
-        return fhpgas.Lattice(states & 63)
-
-    def film(source):
-        fhpgas.film(tmp_path / "film.gif", [source] * 3, "speed", dpi=20)
-
-    known = {rows: lattice(rows) for rows in (512, 2048)}
-    for name, call in (
-        ("porous", lambda rows: fhpgas.porous(Size(1024, rows), 0.3, 2)),
-        ("polygon", lambda rows: fhpgas.polygon(Size(1024, rows), wide(rows))),
-        ("picture", lambda rows: known[rows].plot("speed", figure.subplots())),
-        ("film", lambda rows: film(known[rows])),
-        ("blocks", lambda rows: known[rows].blocks()),
-        ("states", lambda rows: known[rows].replace(states=known[rows].states)),
-    ):
-        least = {512: math.inf, 2048: math.inf}
-        for _ in range(20):
-            least = {rows: min(cost, spent(call, rows)) for rows, cost in least.items()}
-            if least[2048] < 2.5**2 * least[512]:
-                break
-        assert least[2048] < 2.5**2 * least[512], name
-    later = known[512].replace(seed=5, generation=7)
-    assert later.states is known[512].states  # replace copies nothing that is checked
-    assert later.replace(states=0 * later.states).solid is known[512].solid
