@@ -12,7 +12,7 @@ from fhpgas import boltzmann
 from scipy.special import xlogy
 
 GENERATIONS = 0, 1, 2, 4, 8, 16, 32, 64
-START = (0.6, 0, 0.3, 0, 0.3, 0, 0.2), (0.6, 0.1, 0.2, 0.1)  # on the square lattice the second
+START = (0.6, 0, 0.3, 0, 0.3, 0, 0.2), (0.6, 0.1, 0.2, 0.1, 0.3)  # on the square lattice the second
 
 
 def drawn(gas, chances, size, seed, chirality="seeded"):
@@ -65,7 +65,7 @@ def main():
     flow = boltzmann.Flow(gas, np.zeros((2, 1)), has_walls=False)
     chances = np.resize(start, (2, gas.directions)).T[..., None]
     theory = np.array([*flow.every(chances, 1, GENERATIONS[-1])])[..., 0, 0]
-    names = ("E N W S" if gas.is_square else "E NE NW W SW SE rest").split()[: gas.directions]
+    names = ("E N W S rest" if gas.is_square else "E NE NW W SW SE rest").split()[: gas.directions]
     print("generation" + "".join(f"{name:>8}" for name in names) + "       H   H of Boltzmann")
     for generation, numbers in zip(GENERATIONS, means):
         print(f"{generation:10}" + "".join(f"{n:8.4f}" for n in numbers), end="")

@@ -15,6 +15,7 @@ from dataclasses import dataclass
 
 import needs
 import pytest
+from fhpgas import gas_table
 
 sys.path.append(str(needs.ROOT / "plain"))
 import workspace
@@ -22,7 +23,6 @@ import workspace
 pytestmark = [pytest.mark.alone, pytest.mark.usefixtures("checked")]
 PLANS = 60
 OUT = needs.ROOT / "out/checked"
-PLAIN = OUT / "fhpgas"
 TARGET = "x86_64-unknown-linux-gnu"  # named, so that what cargo runs as it builds has no sanitizer
 LIBRARIES = {"thread": "tsan", "address": "asan"}
 # Rust's library is not instrumented: who frees what a scope shares has only a fence before, and results come over a channel of it.
@@ -115,10 +115,9 @@ def plans() -> list[tuple[list[str], str]]:
         words.append(f"--capacity={rng.choice([1, rng.randint(1, 40)])}")
         if rng.random() < 0.7:
             words.append(f"--threads={rng.randint(1, min(stages, 6))}")
-        gas = rng.choice(["fhp1", "fhp-rest", "hpp"])
         size = f"width = {rng.randint(1, 400)}\nheight = {rng.randint(1, 60)}"
-        scene = f'version = 2\ngas = "{gas}"\n{size}\nrate = 300\nseed = {rng.randrange(2**32)}\n'
-        drawn.append((words, scene))
+        gas, seed = rng.choice([*gas_table.GASES]), rng.randrange(2**32)
+        drawn.append((words, f'version = 2\ngas = "{gas}"\n{size}\nrate = 300\nseed = {seed}\n'))
     return drawn
 
 
@@ -126,7 +125,7 @@ def run_plans(build: Build, *profile: str) -> None:
     program = build.program(*profile)
     for words, scene in plans():
         done = run(program, *words, input=scene, env=build.environment)
-        wanted = run(PLAIN, *words[:2], "--stages=1", input=scene)
+        wanted = run(OUT / "fhpgas", *words[:2], "--stages=1", input=scene)
         assert not re.search(r"(WARNING|ERROR): \w+Sanitizer", done.stderr), (words, scene)
         assert (done.returncode, done.stdout) == (0, wanted.stdout), (words, scene)
 

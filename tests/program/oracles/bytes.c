@@ -83,6 +83,7 @@ int main(int count, char **given) {
     struct chirality chirality = chirality_of(given[2]);
     const char *name = count > 3 ? given[3] : fhp1.name;
     const struct gas *gas = !strcmp(name, hpp.name) ? &hpp : !strcmp(name, fhp_rest.name) ? &fhp_rest : &fhp1;
+    if (strcmp(name, gas->name)) stop("no such gas");
     struct cells cells = read_cells();
     make_collisions(gas);
     double begun = seconds_now();
