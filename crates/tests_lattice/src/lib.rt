@@ -1,4 +1,4 @@
-//! Tests of the gases' tables, of rows, random bits, cells as text and stages on worked examples.
+//! Tests of the gases' tables, of rows, random bits, and cells as text on worked examples.
 #![tactic(auto)]
 
 #[cfg(test)]
@@ -11,5 +11,3 @@ mod directions;
 mod random_bits;
 #[cfg(test)]
 mod rows;
-#[cfg(test)]
-mod stages;

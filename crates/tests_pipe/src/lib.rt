@@ -1,11 +1,6 @@
-//! Tests of the members of the line and of runs by threads on worked examples, and of how a
-//! thread waits.
+//! Tests of the places of belts and the gates of runs by threads, and of how a thread waits.
 #![tactic(auto)]
 
-#[cfg(test)]
-mod helpers;
-#[cfg(test)]
-mod members;
 #[cfg(test)]
 mod places;
 #[cfg(test)]

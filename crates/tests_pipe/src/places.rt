@@ -1,9 +1,7 @@
 //! The places of a belt in a running line.
 
-use super::runs::{lattice, run_from};
-use gas_geom::size::Size;
+use super::runs::run_empty;
 use gas_pipe::{Gate, Plan};
-use gas_rows::chirality::Chirality;
 use std::alloc::Global;
 use std::process::Abort;
 use std::sync::Wait;
@@ -64,12 +62,10 @@ fn all_rows_have_places<R: Abort + Threads + Wait + Sync>(
     capacity: u32,
     looks: u32,
 ) -> Result<bool, Fail> {
-    let size = Size::new(4, rows).ok_or("a size")?;
-    let lattice = lattice(alloc, size, &[])?;
     let gate = SecondLooks::new(looks);
     let plan = Plan::new(2, capacity, 4)?;
-    let run = run_from(rt, alloc, &lattice, Chirality::Left, plan, &gate)?;
-    assert!(rt; run.passes() == 2);
+    let passes = run_empty(rt, alloc, (4, rows), plan, &gate)?;
+    assert!(rt; passes == 2);
     Ok(gate.seen.load(Ordering::SeqCst) == 1)
 }
 

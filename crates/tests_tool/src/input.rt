@@ -46,29 +46,12 @@ pub(super) fn scene(fails_at: usize) -> Given<'static> {
     }
 }
 
-#[test]
-fn byte_by_byte(rt: HostRuntime) -> Result<(), Fail> {
-    let mut reader = scene(usize::MAX);
-    assert!(rt; slurp(rt.alloc(), &mut reader)?.as_slice() == DRIFT.as_bytes());
-    assert_eq!(rt; reader.reads, DRIFT.len() + 1);
-    Ok(())
-}
-
 // The number of bytes that `slurp` reads, or the fault's line.
 fn answer(alloc: Global, reader: &mut Given<'_>) -> Result<String, Fail> {
     Ok(match slurp(alloc, reader) {
         Ok(text) => format!(in alloc; "{count} bytes", count = text.len())?,
         Err(fault) => format!(in alloc; "{fault}")?,
     })
-}
-
-#[test]
-fn second_read_fails(rt: HostRuntime) -> Result<(), Fail> {
-    let mut reader = scene(2);
-    let answer = answer(rt.alloc(), &mut reader)?;
-    assert_eq!(rt; answer.as_str(), "input: read failed");
-    assert_eq!(rt; reader.reads, 2);
-    Ok(())
 }
 
 // Asserts what `slurp` returns for a reader of `left` bytes, `most` per read, and that it makes at

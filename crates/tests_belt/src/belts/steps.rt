@@ -1,7 +1,6 @@
 //! The outcomes of one step after another on a belt whose two ends one thread has.
 
-use super::Step::{Given, Held, NoSpare, NothingTaken, OtherBack, Put, PutBack, Spare, Taken};
-use super::{Step, count_carried, ends, is_next, is_over, play, put};
+use super::{ends, is_next, put};
 use gas_belt::belt;
 use gas_belt::rx::Rx;
 use gas_belt::tx::Tx;
@@ -10,107 +9,6 @@ use gas_rows::row::Row;
 use std::alloc::{AllocError, Global};
 use std::process::Abort;
 use std::test::Fail;
-
-// The steps on a belt with this number of places for rows of this width, the numbers of the rows
-// that are left on it then, and the number of rows that it has carried in the end.
-struct Case {
-    places: u32,
-    width: u32,
-    steps: &'static [Step],
-    left: &'static [u32],
-    carried: u64,
-}
-
-const CASES: [Case; 4] = [
-    // Two places for three rows.
-    Case {
-        places: 2,
-        width: 4,
-        steps: &[Put(10), Put(1111), PutBack(2222), Taken(10)],
-        left: &[1111],
-        carried: 2,
-    },
-    // A put makes the row a spare one, a take uses a spare row, and no more than two of these are
-    // held.
-    Case {
-        places: 1,
-        width: 65,
-        steps: &[
-            NoSpare,
-            Put(1000),
-            PutBack(2000),
-            Spare(1000),
-            NoSpare,
-            Held(2),
-            Taken(1000),
-            Held(1),
-            Given(65),
-            Held(2),
-            Given(65),
-            Held(2),
-            Put(2000),
-            Taken(2000),
-        ],
-        left: &[],
-        carried: 2,
-    },
-    // No row is taken without a spare row.
-    Case {
-        places: 3,
-        width: 7,
-        steps: &[
-            Put(11),
-            Put(22),
-            Spare(22),
-            Put(33),
-            Taken(11),
-            Taken(22),
-            Held(0),
-            NothingTaken,
-            Given(7),
-            Taken(33),
-            Held(0),
-        ],
-        left: &[],
-        carried: 3,
-    },
-    // Neither end keeps a row of another width.
-    Case {
-        places: 2,
-        width: 65,
-        steps: &[
-            OtherBack(64),
-            OtherBack(66),
-            NoSpare,
-            Put(7),
-            Taken(7),
-            Given(64),
-            Held(1),
-            Given(66),
-            Held(1),
-            Given(65),
-            Held(2),
-        ],
-        left: &[],
-        carried: 1,
-    },
-];
-
-fn plays(rt: &impl Abort, alloc: Global, case: &Case) -> Result<(), Fail> {
-    let (mut tx, mut rx) = ends(alloc, case.places, case.width)?;
-    play(rt, alloc, &mut tx, &mut rx, case.width, case.steps)?;
-    let carried = count_carried(rt, tx, rx, case.left);
-    assert!(rt; carried == Some(case.carried), "{} places", case.places);
-    Ok(())
-}
-
-#[test]
-fn steps_of_one_thread(rt: HostRuntime) -> Result<(), Fail> {
-    for case in &CASES {
-        plays(&rt, rt.alloc(), case)?;
-    }
-    Ok(())
-}
 
 // A belt, and how many rows were put on it and taken from it, which are their numbers too.
 #[derive(Drop)]
@@ -166,7 +64,7 @@ impl Belt {
     // Takes all rows that are under way.
     fn empty(&mut self, rt: &impl Abort) {
         self.drain(rt, self.put.wrapping_sub(self.taken));
-        assert!(rt; is_over(&mut self.rx));
+        assert!(rt; self.rx.try_take().is_none());
     }
 }
 
@@ -238,17 +136,6 @@ fn rows_have_their_places_in_any_order(rt: HostRuntime) -> Result<(), Fail> {
     for (places, width) in [(8, 7), (9, 65), (33, 256), (1024, 4)] {
         refuses_in_any_order(&rt, rt.alloc(), places, width)?;
     }
-    Ok(())
-}
-
-#[test]
-fn a_look_beside_loses_no_place(rt: HostRuntime) -> Result<(), Fail> {
-    let (mut tx, mut rx) = ends(rt.alloc(), 2, 4)?;
-    let full = [Put(10), Put(20), PutBack(30), Taken(10)];
-    play(&rt, rt.alloc(), &mut tx, &mut rx, 4, &full)?;
-    tx.look_beside(&mut rx);
-    let one_place = [Put(30), PutBack(40), Taken(20), Spare(30)];
-    play(&rt, rt.alloc(), &mut tx, &mut rx, 4, &one_place)?;
     Ok(())
 }
 
