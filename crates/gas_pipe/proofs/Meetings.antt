@@ -13,8 +13,7 @@ use Rattle.gas_pipe_model.specs.Inner.Circle.{owes_in}
 use Rattle.gas_pipe_model.proofs.Circle.{on_high, on_next, on_first}
 use Rattle.gas_pipe_model.proofs.PlanCircle.{is_circle}
 use Rattle.gas_pipe.specs.Inner.Worker.{LineWorkerModel, EndedModel, Job, job_in, HasCome, HasFinished, HasEnded}
-use Rattle.gas_pipe.specs.Inner.Feeder.{LineFeederModel}
-use Rattle.gas_pipe.specs.Inner.Own.{OwnModel, own_jobs, OwnHasCome, SameOwn, IsOver}
+use Rattle.gas_pipe.specs.Inner.Feeder.{LineFeederModel, belts_of, HasFed}
 use Rattle.gas_pipe.specs.Inner.Links.{Linked, last_belt, AllHaveCome, IsLinked, carrying, rows_on_belt, belts_before, HaveMet}
 use Rattle.gas_pipe.proofs.Settled.{long}
 
@@ -110,44 +109,22 @@ module _ {gas : Rules} {input : RunInputModel} {f : LineFeederModel} where
       end_is = ap (λ (c : Belt). last_belt c js) ran.to ∙ met.end_is;
     }
 
--- the line stays linked while the own members have their turns
-pub linked_still : (input : RunInputModel) (own own2 : OwnModel) (others : List Job) → IsLinked input own others → SameOwn own own2 → IsLinked input own2 others
-linked_still input own own2 others line same = record {
-  stages = line.stages;
-  leads =
-      subst (λ (l : List Job). Linked input 0 own2.feeder.tx.belt (l ++ others)) (sym same.jobs)
-      (subst (λ (b : Belt). Linked input 0 b (own_jobs own ++ others)) (sym same.feeder.tx) line.leads);
-  count = ap (λ (l : List Job). length (l ++ others)) same.jobs ∙ line.count;
-  end =
-      ap (λ (l : List Job). last_belt own2.feeder.tx.belt (l ++ others)) same.jobs
-      ∙ ap (λ (b : Belt). last_belt b (own_jobs own ++ others)) same.feeder.tx ∙ line.end ∙ sym same.feeder.rx;
-}
-
--- the feeder and the own worker are over, and s is the closed end of belt 0
-pub met_first : {gas : Rules} {input : RunInputModel} {all own : OwnModel} {f : LineFeederModel} {others : List Job} {s : Sender} {now : List CarriedModel} → own ≡ all → f ≡ own.feeder → IsLinked input all others →
-    OwnHasCome gas input all → IsOver gas all → s ≡ record f.tx { spare = None } → now ≡ [] → HaveMet gas input own.feeder (own_jobs own ++ others) s now
-met_first {gas = gas} {input = input} {own = own} {f = f} {others = others} {s = s} own_is f_is linked has_come is_over closed none = record {
-  is_input = come.feeder.fed.is_input;
-  long = long input own.feeder.feeder own.feeder.tx.put own.feeder.rx.taken come.feeder.fed.channel over.feeder come.feeder.fed.fed;
+-- the feeder is over, and s is the closed end of belt 0
+pub met_first : {gas : Rules} {input : RunInputModel} {f inside : LineFeederModel} {jobs : List Job} {s : Sender} {now : List CarriedModel} → inside ≡ f → IsLinked input (belts_of f) jobs →
+    HasFed gas input f → f.feeder.to_take ≡ 0 → s ≡ record inside.tx { spare = None } → now ≡ [] → HaveMet gas input f jobs s now
+met_first {gas = gas} {input = input} {f = f} {jobs = jobs} {s = s} is line fed over closed none = record {
+  is_input = fed.fed.is_input;
+  long = long input f.feeder f.tx.put f.rx.taken fed.fed.channel over fed.fed.fed;
   k = 0;
-  put_is = put ∙ sym (on_first input.lattice.channel.height (owes_in gas input) (div_ceil input.plan.generations input.plan.stages) own.feeder.tx.put);
+  put_is = put ∙ sym (on_first input.lattice.channel.height (owes_in gas input) (div_ceil input.plan.generations input.plan.stages) f.tx.put);
   belts = none;
-  leads = subst (λ (c : Belt). Linked input 0 c (own_jobs own ++ others)) (sym belt) line.leads;
+  leads = subst (λ (c : Belt). Linked input 0 c jobs) (sym belt) line.leads;
   count = omega (arith, line.count);
-  end_is = ap (λ (c : Belt). last_belt c (own_jobs own ++ others)) belt ∙ line.end;
+  end_is = ap (λ (c : Belt). last_belt c jobs) belt ∙ line.end;
 }
   where
-    line : IsLinked input own others
-    line = subst (λ (o : OwnModel). IsLinked input o others) (sym own_is) linked
+    belt : s.belt ≡ f.tx.belt
+    belt = ap (λ (t : Sender). t.belt) closed ∙ ap (λ (l : LineFeederModel). l.tx.belt) is
 
-    come : OwnHasCome gas input own
-    come = subst (λ (o : OwnModel). OwnHasCome gas input o) (sym own_is) has_come
-
-    over : IsOver gas own
-    over = subst (λ (o : OwnModel). IsOver gas o) (sym own_is) is_over
-
-    belt : s.belt ≡ own.feeder.tx.belt
-    belt = ap (λ (t : Sender). t.belt) closed ∙ ap (λ (l : LineFeederModel). l.tx.belt) f_is
-
-    put : s.put ≡ own.feeder.tx.put
-    put = ap (λ (t : Sender). t.put) closed ∙ ap (λ (l : LineFeederModel). l.tx.put) f_is
+    put : s.put ≡ f.tx.put
+    put = ap (λ (t : Sender). t.put) closed ∙ ap (λ (l : LineFeederModel). l.tx.put) is

@@ -1,5 +1,5 @@
 -- Inner words: what functions of this crate promise one another. No public contract cites them.
 pub mod Worker
 pub mod Feeder
-pub mod Own
+pub mod Crew
 pub mod Links

@@ -12,11 +12,11 @@
 #![tactic(auto)]
 
 pub mod backoff;
+mod crew;
 mod finished;
 mod job;
 mod line;
 mod line_worker;
-mod own;
 mod share;
 mod waiter;
 pub mod wake_ups;

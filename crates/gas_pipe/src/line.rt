@@ -3,15 +3,14 @@ ghost use Rattle.std.specs.Prelude.{◌≡◌, ◌<◌, ◌≤◌, ◌+◌, ◌+
 ghost use Rattle.std.specs.Option.{option_to_list};
 ghost use Rattle.gas_pipe_model.specs.Pass.{RunInputModel};
 ghost use Rattle.gas_pipe.specs.Inner.Worker.{Job, job_of, job_in, IsUnused, HasCome, HasFinished, HasEnded};
-ghost use Rattle.gas_pipe.specs.Inner.Feeder.{LineFeederModel, HasBegun};
-ghost use Rattle.gas_pipe.specs.Inner.Own.{OwnHasCome, IsOver};
+ghost use Rattle.gas_pipe.specs.Inner.Feeder.{LineFeederModel, belts_of, HasBegun, HasFed};
 ghost use Rattle.gas_pipe.specs.Inner.Links.{AllHaveCome, IsLinked, worker_of, jobs_of, HaveMet, IsRunOf};
 
 use crate::Gate;
+use crate::crew::{Crew, LineFeeder};
 use crate::finished::Run;
 use crate::job::{JobPromise, Shared, start_job};
 use crate::line_worker::{Ended, LineWorker};
-use crate::own::{LineFeeder, Own};
 use crate::share::{Share, has_own_worker};
 use crate::wake_ups::WakeUps;
 use gas_belt::belt;
@@ -72,16 +71,24 @@ fn take_own<'e, G: Gas>(
     }
 }
 
-// A line: the members of the caller's thread, and the workers of the threads to start.
+// A line: the feeder, the worker of the caller's thread, and the workers of the threads to start.
 fn make_line<'e, G: Gas>(
     alloc: Global,
     input: &RunInput<'e, G>,
     feeder: Feeder<G>,
-) -> Result<(Own<'e, G>, Vec<LineWorker<'e, G>>), AllocError>
+) -> Result<
+    (
+        LineFeeder<G>,
+        Option<LineWorker<'e, G>>,
+        Vec<LineWorker<'e, G>>,
+    ),
+    AllocError,
+>
     requires begun { HasBegun G.rules input.now feeder }
-    ensures linked { IfOk result (λ r. IsLinked input.now r.0 (map job_of r.1.items)) }
-    ensures own { IfOk result (λ r. OwnHasCome G.rules input.now r.0) }
-    ensures come { IfOk result (λ r. AllHaveCome G.rules r.1.items) }
+    ensures linked { IfOk result (λ r.
+        IsLinked input.now (belts_of r.0) (map job_of (option_to_list r.1 ++ r.2.items))) }
+    ensures fed { IfOk result (λ r. HasFed G.rules input.now r.0) }
+    ensures come { IfOk result (λ r. AllHaveCome G.rules (option_to_list r.1 ++ r.2.items)) }
 {
     let plan = input.span.plan;
     let mut workers = Vec::with_capacity(alloc, plan.threads() as usize)?;
@@ -99,13 +106,7 @@ fn make_line<'e, G: Gas>(
         thread_behind: u32::from(own.is_none()),
         thread_before: workers.len() as u32,
     };
-    Ok((
-        Own {
-            feeder,
-            worker: own,
-        },
-        workers,
-    ))
+    Ok((feeder, own, workers))
 }
 
 // A thread of a run beside the caller's.
@@ -209,25 +210,27 @@ fn join_threads<G: Gas, R: Threads>(
     Some(spent)
 }
 
-// Joins the threads of a line whose own members are over, and lets the two ends of each belt meet:
-// `belts` gets what they carried. None if a worker stopped early.
+// Joins the threads of a line whose feeder and own worker are over, and lets the two ends of each belt
+// meet: `belts` gets what they carried. None if a worker stopped early.
 fn join_and_meet<G: Gas, R: Threads>(
     rt: &R,
     input: &RunInput<'_, G>,
-    own: Own<'_, G>,
+    feeder: LineFeeder<G>,
+    own: Option<LineWorker<'_, G>>,
     threads: Vec<LineThread<'_, G>>,
     mut belts: Vec<Carried<G>>,
 ) -> Option<Run<G>>
-    requires linked { IsLinked input.now own (jobs_of threads.items) }
-    requires come { OwnHasCome G.rules input.now own }
-    requires over { IsOver G.rules own }
+    requires linked { IsLinked input.now (belts_of feeder)
+        (map job_of (option_to_list own) ++ jobs_of threads.items) }
+    requires fed { HasFed G.rules input.now feeder }
+    requires over { feeder.feeder.to_take ≡ 0 }
+    requires own_over { IfSome own (λ w. HasFinished G.rules (job_of w) w.rx.taken w.tx.put) }
     requires none { belts.items ≡ [] }
     requires room { input.now.plan.threads < vec_capacity belts }
     ensures { IfSome result (λ run. IsRunOf G.rules input.now run) }
 {
-    let Own { feeder, worker } = own;
     let LineFeeder { feeder, tx, rx, .. } = feeder;
-    let first = meet_own(tx.close(), worker, &mut belts);
+    let first = meet_own(tx.close(), own, &mut belts);
     let spent = join_threads(rt, first, threads, &mut belts)?;
     let Ok(last) = meet(spent, rx) else {
         unreachable!()
@@ -251,7 +254,7 @@ fn run_in_scope<'s, 'e: 's, G: Gas + Send + 'e, H: Gate + Sync, R: Threads + Wai
     requires begun { HasBegun G.rules input.now feeder }
     ensures { IfSome result (λ run. IsRunOf G.rules input.now run) }
 {
-    let Ok((mut own, workers)) = make_line(alloc, input, feeder) else {
+    let Ok((feeder, own, workers)) = make_line(alloc, input, feeder) else {
         return None;
     };
     let most_belts = input.span.plan.threads() as usize + 1;
@@ -259,11 +262,17 @@ fn run_in_scope<'s, 'e: 's, G: Gas + Send + 'e, H: Gate + Sync, R: Threads + Wai
         return None;
     };
     let threads = start_threads(scope, alloc, shared, workers)?;
-    if !own.run(shared) {
+    let mut crew = Crew {
+        feeder: Some(feeder),
+        worker: own,
+    };
+    if !crew.run(shared) {
         give_up(shared, threads);
         return None;
     }
-    join_and_meet(shared.rt, input, own, threads, belts)
+    let Crew { feeder, worker } = crew;
+    let Some(feeder) = feeder else { unreachable!() };
+    join_and_meet(shared.rt, input, feeder, worker, threads, belts)
 }
 
 /// Makes all passes of a plan over the feeder's rows. Every thread that was started is over before it

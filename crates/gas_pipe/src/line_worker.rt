@@ -1,12 +1,11 @@
 //! A worker of a run, with the ends of the belts that it works between.
-ghost use Rattle.std.specs.Prelude.{◌≡◌, ◌+◌, ◌<◌, [], IfOk, IsTrue, IsFalse};
+ghost use Rattle.std.specs.Prelude.{◌≡◌, ◌+◌, ◌<◌, [], IfOk, IsFalse};
 ghost use Rattle.gas_pipe_model.specs.Plan.{before};
 ghost use Rattle.gas_pipe_members.specs.Worker.{IsClosed};
 ghost use Rattle.gas_pipe.specs.declared.waiter.Turn.TheVariants.{Over};
 ghost use Rattle.gas_pipe.specs.Inner.Worker.{job_of, job_in, IsUnused, HasCome, HasFinished, HasEnded};
 
 use crate::Gate;
-use crate::job::{Shared, ThreadJob};
 use crate::share::Share;
 use crate::waiter::{Turn, Waiter};
 use gas_belt::rx::Rx;
@@ -17,7 +16,6 @@ use gas_pipe_members::plan::{RunInput, Span};
 use gas_pipe_members::worker::Worker;
 use std::alloc::{AllocError, Global};
 use std::marker::Model;
-use std::sync::Wait;
 
 /// A worker of a run, with its open pass, counted from 0, and the two ends that it works between.
 #[derive(Drop)]
@@ -140,28 +138,6 @@ impl<'a, G: Gas> LineWorker<'a, G> {
         }
     }
 
-    // Makes turns until all passes are over. False if the stop flag was raised before.
-    fn make_turns<H: Gate, R: Wait>(&mut self, shared: &Shared<'_, H, R>) -> bool
-        requires come { HasCome G.rules self.old }
-        ensures job { job_of self.new ≡ job_of self.old }
-        ensures over { IsTrue result →
-            HasFinished G.rules (job_of self.new) self.new.rx.taken self.new.tx.put }
-    {
-        let mut waiter = Waiter::new(shared.wake_ups, self.share.thread);
-        for _ in shared.rt.forever() {
-            match self.turn(shared.gate, &mut waiter) {
-                Turn::Over => return true,
-                Turn::Moved => {}
-                Turn::Idle => {
-                    if !waiter.wait(shared.rt, shared.wake_ups.is_stopped()) {
-                        return false;
-                    }
-                }
-            }
-        }
-        unreachable!()
-    }
-
     /// Its stages, and the threads beside it.
     pub(crate) fn share(&self) -> &Share {
         &self.share
@@ -192,22 +168,4 @@ impl<G: Gas> Model for Ended<G> {
     ghost Value = { EndedModel };
 
     ghost view = { λ e. record { rx = e.rx; spent = e.spent } };
-}
-
-impl<'a, G: Gas> ThreadJob<Ended<G>> for LineWorker<'a, G> {
-    ghost fresh = { λ w. HasCome G.rules w };
-
-    ghost kept = { λ w e. HasEnded G.rules (job_of w) e };
-
-    fn make<H: Gate, R: Wait>(self, shared: &Shared<'_, H, R>) -> Option<Ended<G>> {
-        let mut worker = self;
-        let share = worker.share;
-        share.enter(shared.gate);
-        let is_over = worker.make_turns(shared);
-        share.leave(shared.gate);
-        if !is_over {
-            return None;
-        }
-        Some(worker.end())
-    }
 }

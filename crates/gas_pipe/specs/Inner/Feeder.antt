@@ -4,7 +4,7 @@ use Rattle.std.specs.Prelude.{◌≡◌, ◌+◌, ◌<◌, ◌≤◌, List, [], 
 use Rattle.std.specs.Int.{div_ceil}
 use Rattle.gas_geom.specs.Gas.{Rules}
 use Rattle.gas_rows.specs.Row.{RowModel}
-use Rattle.gas_belt.specs.Belt.{Sender, Receiver}
+use Rattle.gas_belt.specs.Belt.{Belt, Sender, Receiver}
 use Rattle.gas_pipe_model.specs.Pass.{RunInputModel, IsRunInput}
 use Rattle.gas_pipe_members.specs.Feeder.{FeederModel, MayHaveFed}
 
@@ -35,7 +35,6 @@ pub record HasFed (gas : Rules) (input : RunInputModel) (f : LineFeederModel) : 
   pub held : 2 ≤ f.rx.held
   pub room : 2 ≤ f.rx.most
 
--- they are between the same belts
-pub record SameFeeder (old new : LineFeederModel) : Type 0 where
-  pub tx : new.tx.belt ≡ old.tx.belt
-  pub rx : new.rx.belt ≡ old.rx.belt
+-- the belt that it puts on, and the belt that it takes from
+abbrev pub belts_of : LineFeederModel → Belt × Belt
+belts_of f = (f.tx.belt, f.rx.belt)

@@ -1,6 +1,6 @@
 -- Inner words: what functions of this crate promise one another. No public contract cites them.
 -- How the workers of a run are linked, and what the belts have carried when it is over.
-use Rattle.std.specs.Prelude.{◌≡◌, ℕ, suc, ◌+◌, ◌*◌, ◌<◌, ◌++◌, List, [], ◌∷◌, length, map, Option}
+use Rattle.std.specs.Prelude.{◌≡◌, ℕ, suc, ◌+◌, ◌*◌, ◌<◌, List, [], ◌∷◌, length, map, Option}
 use Rattle.std.specs.Int.{div_ceil}
 use Rattle.std.specs.List.{range_with_len}
 use Rattle.std.specs.declared.thread.PromisedHandle.{PromisedHandle}
@@ -14,7 +14,6 @@ use Rattle.gas_pipe_model.specs.Inner.Circle.{on_belt, owes_in}
 use Rattle.gas_pipe.specs.Run.{RunModel}
 use Rattle.gas_pipe.specs.Inner.Worker.{LineWorkerModel, EndedModel, Job, job_of, job_in, HasCome}
 use Rattle.gas_pipe.specs.Inner.Feeder.{LineFeederModel}
-use Rattle.gas_pipe.specs.Inner.Own.{OwnModel, own_jobs}
 
 -- the jobs are those of the workers from the k-th on: the first takes from the belt `from`, and each other from the belt of the one before
 abbrev pub Linked : RunInputModel → ℕ → Belt → List Job → Type 0
@@ -31,12 +30,12 @@ abbrev pub AllHaveCome : Rules → List LineWorkerModel → Type 0
 AllHaveCome gas [] = Unit {0}
 AllHaveCome gas (w ∷ ws) = HasCome gas w × AllHaveCome gas ws
 
--- The line is linked: its workers, the own one before the others, lead from the belt that the feeder puts on to the belt that it takes from.
-pub record IsLinked (input : RunInputModel) (own : OwnModel) (others : List Job) : Type 0 where
+-- The line is linked: the jobs of its workers lead from the belt that the feeder puts on to the belt that it takes from.
+pub record IsLinked (input : RunInputModel) (belts : Belt × Belt) (jobs : List Job) : Type 0 where
   pub stages : 0 < input.plan.stages
-  pub leads : Linked input 0 own.feeder.tx.belt (own_jobs own ++ others)
-  pub count : length (own_jobs own ++ others) ≡ input.plan.threads
-  pub end : last_belt own.feeder.tx.belt (own_jobs own ++ others) ≡ own.feeder.rx.belt
+  pub leads : Linked input 0 belts.0 jobs
+  pub count : length jobs ≡ input.plan.threads
+  pub end : last_belt belts.0 jobs ≡ belts.1
 
 -- the worker that a thread was given
 abbrev pub worker_of : PromisedHandle (Option EndedModel) (JobPromise LineWorkerModel) → LineWorkerModel

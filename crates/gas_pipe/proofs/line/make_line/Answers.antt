@@ -1,13 +1,11 @@
 use Rattle.std.proofs.Common.{◌≡◌, ◌+◌, ◌++◌, ◌∷◌, [], ◌∙◌, List, length, map, arith, ap, sym, subst, refl, ℕ}
 use Rattle.std.proofs.lemmas.List.{map-append, length-append}
-use Rattle.std.specs.Option.{option_to_list}
 use Rattle.gas_rows.specs.Row.{RowModel}
-use Rattle.gas_belt.specs.Belt.{Belt}
 use Rattle.gas_pipe_model.specs.Pass.{RunInputModel}
-use Rattle.gas_pipe.specs.Inner.Worker.{LineWorkerModel, Job, job_of, job_in}
+use Rattle.gas_pipe.specs.Inner.Worker.{Job, job_of, job_in}
 use Rattle.gas_pipe.specs.Inner.Feeder.{MayHaveFedInput}
-use Rattle.gas_pipe.specs.Inner.Links.{Linked, last_belt, AllHaveCome}
-use Rattle.gas_pipe.proofs.Meetings.{linked_snoc, last_belt_snoc, come_snoc, come_own}
+use Rattle.gas_pipe.specs.Inner.Links.{last_belt}
+use Rattle.gas_pipe.proofs.Meetings.{linked_snoc, last_belt_snoc, come_snoc}
 use Rattle.gas_pipe.proofs.line.make_line.Goals as goal
 
 pub loop-number-init : goal.loop-number-init
@@ -45,37 +43,29 @@ pub returns-clause-linked : goal.returns-clause-linked
 returns-clause-linked g c =
     let was = c.loop-number.invariant in
     let input = c.args.input.now in
-    let own = option_to_list c.take_own-own.result in
-    let rest = c.take_own-own.new.workers.items in
-    let jobs : map job_of own ++ map job_of rest ≡ map job_of c.loop-number.workers.items = sym (map-append job_of own rest) ∙ ap (map job_of) c.take_own-own.ensures.all in
-    let belt = c.in_ok-tx.ensures.one_belt in
+    let from = c.in_ok-tx.last.belt in
     let same : c.input.inside.span.plan.threads ≡ input.plan.threads = ap (λ (q : RunInputModel). q.plan.threads) c.input.view_is in
     let all : c.loop-number.number ≡ input.plan.threads = omega (arith, same, c.threads-number-end.ensures.value) in
-    record {
+    rw (c.take_own-own.ensures.all, c.in_ok-tx.ensures.one_belt)
+    (record {
       stages = omega (arith, ap (λ (q : RunInputModel). q.plan.stages) c.input.view_is);
-      leads = subst (λ (d : Belt). Linked input 0 d (map job_of own ++ map job_of rest)) (sym belt) (subst (λ (l : List Job). Linked input 0 c.in_ok-tx.last.belt l) (sym jobs) was.leads);
-      count = ap (λ (l : List Job). length l) jobs ∙ was.count ∙ all;
-      end = ap (λ (d : Belt). last_belt d (map job_of own ++ map job_of rest)) belt ∙ ap (last_belt c.in_ok-tx.last.belt) jobs ∙ was.end;
-    }
+      leads = was.leads;
+      count = was.count ∙ all;
+      end = was.end;
+    })
 
-pub returns-clause-own : goal.returns-clause-own
-returns-clause-own g c =
+pub returns-clause-fed : goal.returns-clause-fed
+returns-clause-fed g c =
     let gas = g.G.Gas.rules in
-    let all = subst (λ (l : List LineWorkerModel). AllHaveCome gas l) (sym c.take_own-own.ensures.all) c.loop-number.invariant.come in
+    let unused = c.loop-number.invariant.unused in
     record {
-      feeder = record {
-        fed =
-            subst (λ (l : List RowModel). MayHaveFedInput gas c.args.input.now c.args.feeder l c.loop-number.last.taken) (sym c.in_ok-tx.ensures.nothing_put)
-            (subst (λ (l : List RowModel). MayHaveFedInput gas c.args.input.now c.args.feeder [] l) (sym c.loop-number.invariant.unused.nothing_taken) c.requires.begun.fed);
-        spares = rw (c.in_ok-tx.ensures.nothing_put, c.loop-number.invariant.unused.nothing_taken, c.requires.begun.spares) refl;
-        held = omega (arith, c.loop-number.invariant.unused.two_spares);
-        room = omega (arith, c.loop-number.invariant.unused.two_places);
-      };
-      worker = (come_own gas c.take_own-own.result c.take_own-own.new.workers.items all).0;
+      fed =
+          subst (λ (l : List RowModel). MayHaveFedInput gas c.args.input.now c.args.feeder l c.loop-number.last.taken) (sym c.in_ok-tx.ensures.nothing_put)
+          (subst (λ (l : List RowModel). MayHaveFedInput gas c.args.input.now c.args.feeder [] l) (sym unused.nothing_taken) c.requires.begun.fed);
+      spares = rw (c.in_ok-tx.ensures.nothing_put, unused.nothing_taken, c.requires.begun.spares) refl;
+      held = omega (arith, unused.two_spares);
+      room = omega (arith, unused.two_places);
     }
 
 pub returns-clause-come : goal.returns-clause-come
-returns-clause-come g c =
-    let gas = g.G.Gas.rules in
-    let all = subst (λ (l : List LineWorkerModel). AllHaveCome gas l) (sym c.take_own-own.ensures.all) c.loop-number.invariant.come in
-    (come_own gas c.take_own-own.result c.take_own-own.new.workers.items all).1
+returns-clause-come g c = rw c.take_own-own.ensures.all c.loop-number.invariant.come

@@ -1,13 +1,14 @@
-//! The members of the caller's thread.
+//! What a thread of a run does.
 ghost use Rattle.std.specs.Prelude.{◌≡◌, IsTrue};
 ghost use Rattle.gas_pipe_model.specs.Pass.{RunInputModel};
 ghost use Rattle.gas_pipe.specs.declared.waiter.Turn.TheVariants.{Over};
-ghost use Rattle.gas_pipe.specs.Inner.Feeder.{HasFed, SameFeeder};
-ghost use Rattle.gas_pipe.specs.Inner.Own.{OwnHasCome, SameOwn, IsOver};
+ghost use Rattle.gas_pipe.specs.Inner.Worker.{job_of, HasCome, HasEnded};
+ghost use Rattle.gas_pipe.specs.Inner.Feeder.{belts_of, HasFed};
+ghost use Rattle.gas_pipe.specs.Inner.Crew.{CrewHasCome, SameCrew, IsOver};
 
 use crate::Gate;
-use crate::job::Shared;
-use crate::line_worker::LineWorker;
+use crate::job::{Shared, ThreadJob};
+use crate::line_worker::{Ended, LineWorker};
 use crate::waiter::{Turn, Waiter};
 use gas_belt::rx::Rx;
 use gas_belt::tx::Tx;
@@ -47,7 +48,7 @@ impl<G: Gas> LineFeeder<G> {
         requires fed { (input : RunInputModel) × HasFed G.rules input self.old }
         ensures fed { (input : RunInputModel) → HasFed G.rules input self.old →
             HasFed G.rules input self.new }
-        ensures same { SameFeeder self.old self.new }
+        ensures same { belts_of self.new ≡ belts_of self.old }
         ensures over { result ≡ Over → self.new.feeder.to_take ≡ 0 }
     {
         match self.feeder.turn(&mut self.tx, &mut self.rx) {
@@ -66,46 +67,47 @@ impl<G: Gas> LineFeeder<G> {
     }
 }
 
-/// The members of the caller's thread: the feeder and, with fewer threads than stages, the first
-/// worker.
+/// What a thread of a run does: it has the feeder, a worker, or both.
 #[derive(Drop)]
-pub struct Own<'a, G: Gas> {
-    pub feeder: LineFeeder<G>,
+pub struct Crew<'a, G: Gas> {
+    pub feeder: Option<LineFeeder<G>>,
     pub worker: Option<LineWorker<'a, G>>,
 }
 
-impl<'a, G: Gas> Model for Own<'a, G> {
-    ghost use Rattle.gas_pipe.specs.Inner.Own.{OwnModel};
+impl<'a, G: Gas> Model for Crew<'a, G> {
+    ghost use Rattle.gas_pipe.specs.Inner.Crew.{CrewModel};
 
-    ghost Value = { OwnModel };
+    ghost Value = { CrewModel };
 
-    ghost view = { λ o. record { feeder = o.feeder; worker = o.worker } };
+    ghost view = { λ c. record { feeder = c.feeder; worker = c.worker } };
 }
 
-impl<'a, G: Gas> Own<'a, G> {
+impl<'a, G: Gas> Crew<'a, G> {
     // A turn of each.
     fn turn<H: Gate>(&mut self, gate: &H, waiter: &mut Waiter<'_>) -> Turn
-        requires come { (input : RunInputModel) × OwnHasCome G.rules input self.old }
-        ensures come { (input : RunInputModel) → OwnHasCome G.rules input self.old →
-            OwnHasCome G.rules input self.new }
-        ensures same { SameOwn self.old self.new }
+        requires come { (input : RunInputModel) × CrewHasCome G.rules input self.old }
+        ensures come { (input : RunInputModel) → CrewHasCome G.rules input self.old →
+            CrewHasCome G.rules input self.new }
+        ensures same { SameCrew self.old self.new }
         ensures over { result ≡ Over → IsOver G.rules self.new }
     {
-        let fed = self.feeder.turn(waiter);
-        match &mut self.worker {
-            None => fed,
-            Some(worker) => fed.and(worker.turn(gate, waiter)),
+        match (&mut self.feeder, &mut self.worker) {
+            (Some(feeder), Some(worker)) => feeder.turn(waiter).and(worker.turn(gate, waiter)),
+            (Some(feeder), None) => feeder.turn(waiter),
+            (None, Some(worker)) => worker.turn(gate, waiter),
+            (None, None) => Turn::Over,
         }
     }
 
     fn make_turns<H: Gate, R: Wait>(&mut self, shared: &Shared<'_, H, R>) -> bool
-        requires come { (input : RunInputModel) × OwnHasCome G.rules input self.old }
-        ensures come { (input : RunInputModel) → OwnHasCome G.rules input self.old →
-            OwnHasCome G.rules input self.new }
-        ensures same { SameOwn self.old self.new }
+        requires come { (input : RunInputModel) × CrewHasCome G.rules input self.old }
+        ensures come { (input : RunInputModel) → CrewHasCome G.rules input self.old →
+            CrewHasCome G.rules input self.new }
+        ensures same { SameCrew self.old self.new }
         ensures over { IsTrue result → IsOver G.rules self.new }
     {
-        let mut waiter = Waiter::new(shared.wake_ups, 0);
+        let thread = self.worker.as_ref().map_or(0, |w| w.share().thread);
+        let mut waiter = Waiter::new(shared.wake_ups, thread);
         for _ in shared.rt.forever() {
             match self.turn(shared.gate, &mut waiter) {
                 Turn::Over => return true,
@@ -123,10 +125,10 @@ impl<'a, G: Gas> Own<'a, G> {
     /// Makes turns until all passes are over. False if the stop flag was raised before. The worker's
     /// stages enter the gate before the first turn, and leave it after the last.
     pub(crate) fn run<H: Gate, R: Wait>(&mut self, shared: &Shared<'_, H, R>) -> bool
-        requires come { (input : RunInputModel) × OwnHasCome G.rules input self.old }
-        ensures come { (input : RunInputModel) → OwnHasCome G.rules input self.old →
-            OwnHasCome G.rules input self.new }
-        ensures same { SameOwn self.old self.new }
+        requires come { (input : RunInputModel) × CrewHasCome G.rules input self.old }
+        ensures come { (input : RunInputModel) → CrewHasCome G.rules input self.old →
+            CrewHasCome G.rules input self.new }
+        ensures same { SameCrew self.old self.new }
         ensures over { IsTrue result → IsOver G.rules self.new }
     {
         if let Some(worker) = &self.worker {
@@ -137,5 +139,23 @@ impl<'a, G: Gas> Own<'a, G> {
             worker.share().leave(shared.gate);
         }
         is_over
+    }
+}
+
+impl<'a, G: Gas> ThreadJob<Ended<G>> for LineWorker<'a, G> {
+    ghost fresh = { λ w. HasCome G.rules w };
+
+    ghost kept = { λ w e. HasEnded G.rules (job_of w) e };
+
+    fn make<H: Gate, R: Wait>(self, shared: &Shared<'_, H, R>) -> Option<Ended<G>> {
+        let mut crew = Crew {
+            feeder: None,
+            worker: Some(self),
+        };
+        if !crew.run(shared) {
+            return None;
+        }
+        let worker = crew.worker?;
+        Some(worker.end())
     }
 }

@@ -1,8 +1,8 @@
 use Rattle.std.proofs.Common.{sym, subst}
 use Rattle.gas_pipe.specs.Inner.Feeder.{LineFeederModel, HasFed}
 use Rattle.gas_pipe.proofs.Feeders.{fed_took, fed_put}
-use Rattle.gas_pipe.proofs.own.LineFeeder.turn.Goals as goal
-use Rattle.gas_pipe.proofs.own.LineFeeder.turn.Goals.{in-Took, in-Put, in-Done, in-Idle}
+use Rattle.gas_pipe.proofs.crew.LineFeeder.turn.Goals as goal
+use Rattle.gas_pipe.proofs.crew.LineFeeder.turn.Goals.{in-Took, in-Put, in-Done, in-Idle}
 
 pub returns-clause-fed : goal.returns-clause-fed
 returns-clause-fed g c input fed =
