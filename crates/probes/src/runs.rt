@@ -55,6 +55,16 @@ fn replay_turns(alloc: Global, lattice: &Lattice<Fhp1>) -> Made {
     }
 }
 
+// The names of runs, the stages and the threads that they are on, the capacity and the generations.
+const RUNS: [(&str, (u32, u32), u32, u64); 6] = [
+    ("run_1", (1, 1), 1, 5),
+    ("run_2", (2, 2), 1, 5),
+    ("run_2_long", (2, 2), 1, 50),
+    ("run_4", (4, 4), 2, 5),
+    ("run_4_on_1", (4, 1), 2, 5),
+    ("run_4_on_2", (4, 2), 2, 5),
+];
+
 // Runs the lattice by so many stages on so many threads.
 fn run_drift<R: Threads + Wait + Sync>(
     threads: &R,
@@ -107,17 +117,10 @@ fn refusal(fault: &ToolError, written: usize) -> Made {
 pub fn make<R: Threads + Wait + Sync>(probe: &mut Probe, threads: &R) {
     probe.lend("coarse", table);
     probe.lend("replay", replay_turns);
-    probe.call("run_1", |alloc| run_drift(threads, alloc, (1, 1), 1, 5));
-    probe.call("run_2", |alloc| run_drift(threads, alloc, (2, 2), 1, 5));
-    probe.call("run_2_long", |alloc| {
-        run_drift(threads, alloc, (2, 2), 1, 50)
-    });
-    probe.call("run_4", |alloc| run_drift(threads, alloc, (4, 4), 2, 5));
-    probe.call("run_4_on_1", |alloc| {
-        run_drift(threads, alloc, (4, 1), 2, 5)
-    });
-    probe.call("run_4_on_2", |alloc| {
-        run_drift(threads, alloc, (4, 2), 2, 5)
-    });
+    for (name, on, capacity, generations) in RUNS {
+        probe.call(name, |alloc| {
+            run_drift(threads, alloc, on, capacity, generations)
+        });
+    }
     probe.call("perform", |alloc| perform_run(threads, alloc));
 }
