@@ -166,6 +166,6 @@ def test_threads_of_the_ring(threads: Build, tmp_path: pathlib.Path, order: str,
     words = f"rustc --edition=2024 --test tests/plain/ring.rs {threads.environment['RUSTFLAGS']}"
     made = run(*words.split(), cwd=tmp_path, env=threads.environment)
     assert made.returncode == 0, made.stderr
-    done = run(tmp_path / "ring", env=threads.environment)
+    done = run(tmp_path / "ring", "--skip=past_two_to_the_32", env=threads.environment)
     assert order or "test result: ok." in done.stdout
     assert bool(races(done.stderr)) == bool(order)
