@@ -21,7 +21,14 @@ plain/workspace.py "$made" ${2:+--proved "$2"}
 cp out/checked/workspace/Cargo.lock "$made" 2> /dev/null || true
 (cd "$made" && cargo package --quiet --allow-dirty --no-verify && cp target/package/*.crate "$folder" && rm -r target) # for crates.io
 cp docs/NOTICES.md include/fhpgas.h "$made"
-env -C "$made" cargo vendor --quiet --respect-source-config --versioned-dirs
+registry=$(sed -n 's/^directory = "\(.*\)"/\1/p' "$made/.cargo/config.toml" 2> /dev/null) || true
+if [ -n "$registry" ]; then # Debian's crates: Cargo 1.85 deletes there, as root, what it vendors
+    mkdir "$made/vendor"
+    awk -F '"' '/^name/ { name = $2 } /^version/ { version = $2 } /^source/ { print name "-" version }' "$made/Cargo.lock" |
+        (cd "$registry" && xargs cp -rLt "$made/vendor")
+else
+    env -C "$made" cargo vendor --quiet --versioned-dirs
+fi
 mkdir -p "$made/.cargo" "$room/licences/rust"
 printf '[source.%s]\n%s\n' crates-io 'replace-with = "vendor"' vendor 'directory = "vendor"' > "$made/.cargo/config.toml"
 for crate in "$made"/vendor/*; do
