@@ -87,6 +87,7 @@ members = ["checks", "engine"]
 [profile.dev]
 opt-level = 1
 debug = "line-tables-only"
+incremental = false
 
 [profile.dev.package]
 "*".opt-level = 0
@@ -198,8 +199,10 @@ def write_packages(folder: pathlib.Path, proved: str | None) -> None:
     write(folder / "README.md", "\n".join(["# fhpgas\n", *said, ""]))
 
 
-def make(folder: pathlib.Path, proved: str | None = None) -> None:
-    uses = crates()
+def make(folder: pathlib.Path, proved: str | None = None, checked: str = "tests_") -> None:
+    """Writes the packages. In `checks` are the crates of tests whose names match `checked`."""
+    names = f"(?!tests_)|{checked}"
+    uses = {name: used for name, used in crates().items() if re.match(names, name)}
     tests = [name for name in uses if name.startswith("tests_")]
     library = ["shim", *sorted(below("gas_export", uses) & uses.keys())]
     program = ["shim", *(name for name in uses if name not in (*tests, "fhpgas"))]

@@ -81,11 +81,10 @@ def found_flags(sanitizer: str, folder: pathlib.Path, environment: dict[str, str
     pytest.skip(f"rustc has no {sanitizer} sanitizer here")
 
 
-def sanitized(sanitizer: str, folder: pathlib.Path, proved: str | None = None) -> Build:
+def sanitized(sanitizer: str, proved: str | None = None) -> Build:
     """A workspace for a sanitizer. Sanitizers are not stable, so rustc must be told to take them."""
-    workspace.make(folder, proved)
     made = OUT / sanitizer
-    made.mkdir(exist_ok=True)
+    workspace.make(made / "workspace", proved, "tests_(belt|pipe)$")
     (made / "suppressed").write_text(SUPPRESSED)
     environment = os.environ | {
         "ASAN_OPTIONS": "detect_leaks=0",  # texts for clap live for ever
@@ -97,7 +96,7 @@ def sanitized(sanitizer: str, folder: pathlib.Path, proved: str | None = None) -
         "TSAN_OPTIONS": f"suppressions={made / 'suppressed'}",
     }
     environment["RUSTFLAGS"] = found_flags(sanitizer, made, environment)
-    return Build(folder, made / TARGET, environment)
+    return Build(made / "workspace", made / TARGET, environment)
 
 
 def races(told: str) -> list[str]:
@@ -131,12 +130,12 @@ def run_plans(build: Build, *profile: str) -> None:
 
 
 def test_addresses() -> None:
-    run_plans(sanitized("address", OUT / "trusting", "these tests"), "--release")
+    run_plans(sanitized("address", "these tests"), "--release")
 
 
 @pytest.fixture(scope="module")
 def threads() -> Build:
-    return sanitized("thread", OUT / "workspace")
+    return sanitized("thread")
 
 
 def test_threads_of_plans(threads: Build) -> None:
@@ -144,8 +143,8 @@ def test_threads_of_plans(threads: Build) -> None:
 
 
 def test_threads_of_the_lines_tests(threads: Build) -> None:
-    named = "tests_belt", "tests_pipe", "--skip=two_to_the_26"  # minutes in which nothing can race
-    done = threads.cargo("test", "--package=checks", "--lib", "--no-fail-fast", "--", *named)
+    words = "test --package=checks --lib --no-fail-fast -- --skip=two_to_the_26"  # minutes in which nothing can race
+    done = threads.cargo(*words.split())
     assert done.stdout.count("test result: ok.") == 1, done.stderr
     assert races(done.stderr) == []
 
