@@ -130,9 +130,13 @@ def call(scene: bytes, *words: object) -> bytes:
     with _starting:
         command = [*_tied(), str(program_path()), *map(str, words)]
     pipes: dict[str, Any] = dict.fromkeys(("stdin", "stdout", "stderr"), subprocess.PIPE)
+    answer, unsent = None, scene
     with group.get().holding(lambda: subprocess.Popen(command, **pipes)) as process, process:
         try:
-            answer, said = process.communicate(scene)
+            while answer is None:  # each second it sees an interrupt that came to another thread
+                with contextlib.suppress(subprocess.TimeoutExpired):
+                    answer, said = process.communicate(unsent, timeout=1)
+                unsent = b""  # Popen keeps what it has not sent
         except BaseException:
             process.kill()
             raise
