@@ -65,7 +65,7 @@ hand_out() {
 cd "$room"
 rm -r "$made"
 tar -xzf "$folder/$name.tar.gz"
-build x86-64-v3 --lib # the levels of processors that the package knows
+build x86-64-v3 --lib --no-default-features ${2:+--features trusting} # the levels of processors that the package knows
 cp "$made/target/release/libfhpgas.so" "$room/libfhpgas-x86-64-v3.so"
 build x86-64-v2
 cp "$made/target/release/libfhpgas.so" "$room/libfhpgas-x86-64-v2.so"
