@@ -104,6 +104,7 @@ REFUSED = {
 FAILED = re.compile(r"write: failed after \d+ bytes\n")
 PIPED = "./fhpgas run --generations 0 < wide | head -c 10 > /dev/null; exit ${PIPESTATUS[0]}"
 FULL = "(trap '' XFSZ; ulimit -f 1; ./fhpgas run --generations 0 < wide > cut); status=$?; wc -c < cut; exit $status"
+LONGEST = r"(printf 'gas = \"hpp\"\nwidth = 3\n'; head -c 67108831 /dev/zero | tr '\0' '\n'; echo height = 4) | ./fhpgas check"
 STREAMS = [
     ("./fhpgas run --generations 1 < drift > /dev/full", 4, "", "write: failed after 0 bytes\n"),
     ("./fhpgas run --generations 1 --stages 0 < drift > /dev/full", 1, "", STAGES + "\n"),
@@ -118,6 +119,7 @@ STREAMS = [
     ("./fhpgas run --generations x < .", 2, "", SOMETHING),
     ("./fhpgas run --generations 1 $'\\xff' < drift", 2, "", SOMETHING),
     ("head -c 67108865 /dev/zero | ./fhpgas run --generations 1", 1, "", "input: too long\n"),
+    (LONGEST, 0, "gas hpp width 3 height 4 solid 0 particles 0\n", ""),
 ]
 
 
