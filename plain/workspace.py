@@ -87,7 +87,6 @@ members = ["checks", "engine"]
 [profile.dev]
 opt-level = 1
 debug = "line-tables-only"
-incremental = false
 
 [profile.dev.package]
 "*".opt-level = 0

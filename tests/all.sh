@@ -3,6 +3,7 @@
 # `make test` leaves a record in out/record.
 . "$(dirname "$0")/lib/try.sh"
 set -o pipefail
+export CARGO_INCREMENTAL=0 # what cargo builds here is built once
 program=crates/fhpgas/out/fhpgas
 checked=$PWD/out/checked/fhpgas
 package=(tests/package/{lattices,blocks,drawing,flows,processes,commands,explanations}.py) # the tests of the package that runs lattices
