@@ -3,7 +3,6 @@ contract that the page quotes. Its crate must be proved, and its wrong body refu
 the page begins with. The page of definitions must have the new one, and no count of a document change."""
 
 import re
-import shutil
 import subprocess
 import sys
 
@@ -41,15 +40,15 @@ def changed(tool, tmp_path_factory):
 
 @pytest.fixture(scope="module")
 def told(changed):
-    """How rt ci ends on the crate, which needs no other, as a repository of its own, since where CI is set it takes no names."""
-    (changed / "alone").mkdir()
-    (changed / "alone/crates.txt").write_text("gas_geom:\n")
-    shutil.copytree(changed / "crates/gas_geom", changed / "alone/crates/gas_geom")
-    return run(changed / "alone", "rt", "ci")
+    """How the page's commands end in the folder of the crate, which needs no other."""
+    words = "rt check", "rt must-fail gas_geom", "rt fmt"
+    return [run(changed / "crates/gas_geom", *it.split()) for it in words]
 
 
-def test_it_is_proved(told):
-    assert told.returncode == 0, told.stdout
+def test_it_is_proved_as_it_is_laid_out(told, changed):
+    assert told[0].returncode == 0, told[0].stdout
+    assert "fn gas_geom::size::Size::cells: proved" in told[0].stdout
+    needs.printed(["git", "apply", "--reverse", "--check", DIFF], cwd=changed)
 
 
 def test_page_quotes_the_contract():
@@ -62,9 +61,8 @@ def test_page_quotes_the_contract():
     [("every_channel_is_square", "returns"), ("too_large", "overflow_mul-self-inside")],
 )
 def test_wrong_body_is_refused(told, edit, goal):
-    assert re.search(
-        rf"must-fail gas_geom/{edit}.edit: refused, as it must be: .*\(`{goal}`\)", told.stdout
-    )
+    words = rf"must-fail gas_geom/{edit}.edit: refused, as it must be: .*\(`{goal}`\)"
+    assert re.search(words, told[1].stdout)
 
 
 def test_page_of_definitions_has_its_definition(changed):
