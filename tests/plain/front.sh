@@ -9,7 +9,7 @@ offline=$([ ! -e "$crate/.cargo" ] || echo --offline)
 # cargo_in FOLDER WORDS..: silent unless it fails
 cargo_in() { (cd "$1" && cargo "$2" --quiet ${offline:+"$offline"} "${@:3}") > "$room/told" 2>&1 || { cat "$room/told" && false; }; }
 
-try 'its tests pass' cargo_in "$crate" test --no-default-features
+CARGO_PROFILE_DEV_OPT_LEVEL=0 try 'its tests pass' cargo_in "$crate" test --no-default-features # optimizing would take longer than they do
 try 'its program compiles' cargo_in "$crate" check --bins # what they become was tried before
 try 'its documents are made' cargo_in "$crate" doc --no-deps
 try 'without a warning' [ ! -s "$room/told" ]
