@@ -28,14 +28,17 @@ built() {
 if [ ! -d "$library" ]; then
     mkdir -p "$library.new"
     built core "$sources/core/src/lib.rs"
-    built compiler_builtins - <<< '#![feature(compiler_builtins)] #![compiler_builtins] #![no_std]'
+    built compiler_builtins - <<< '#![feature(compiler_builtins)] #![compiler_builtins] #![no_std]
+        #[unsafe(no_mangle)] unsafe extern "C" fn memcmp(a: *const u8, b: *const u8, n: usize) -> i32 {
+            (0..n).map(|i| unsafe { *a.add(i) as i32 - *b.add(i) as i32 }).find(|it| *it != 0).unwrap_or(0)
+        }'
     built alloc "$sources/alloc/src/lib.rs"
     mv "$library.new" "$library"
 fi
 
 ./workspace.py "$folder/workspace" --proved "the sources of $(sed -n 's/^version: /fhpgas /p' ../CITATION.cff)"
 cd "$folder/workspace"
-flags="--sysroot $root -C linker=wasm-ld -C link-arg=-zstack-size=65536 -C target-feature=+simd128"
+flags="--sysroot $root -C linker=wasm-ld -C link-arg=-zstack-size=65536 -C target-feature=+simd128,+bulk-memory"
 RUSTC=$rustc CARGO_PROFILE_RELEASE_STRIP=true CARGO_PROFILE_RELEASE_LTO=true CARGO_TARGET_WASM32_UNKNOWN_UNKNOWN_RUSTFLAGS=$flags \
     cargo build --release --quiet --package engine --lib --no-default-features --features trusting --target "$target"
 cp "target/$target/release/fhpgas.wasm" "$folder/module.wasm"
