@@ -28,6 +28,7 @@ built() {
 if [ ! -d "$library" ]; then
     mkdir -p "$library.new"
     built core "$sources/core/src/lib.rs"
+    # what Rust 1.85 makes of comparisons calls memcmp
     built compiler_builtins - <<< '#![feature(compiler_builtins)] #![compiler_builtins] #![no_std]
         #[unsafe(no_mangle)] unsafe extern "C" fn memcmp(a: *const u8, b: *const u8, n: usize) -> i32 {
             (0..n).map(|i| unsafe { *a.add(i) as i32 - *b.add(i) as i32 }).find(|it| *it != 0).unwrap_or(0)
