@@ -21,13 +21,14 @@ LINK = re.compile(
 HEADING = re.compile(r"^#{1,6}[ \t]+(.*?)[ \t]*#*$", re.M)
 NAMED = re.compile(r"<\w+ (?:id|name)=\"([^\"]+)\"")
 SUFFIXES = (".rt", ".antt", ".py", ".js", ".mjs", ".c", ".h", ".md")
+MADE = re.compile(r"/(?:out/|\.)")
 ELSEWHERE = re.compile(r"[a-z][a-z0-9+.-]*:", re.I)
 
 
 def documents():
-    """The Markdown files, but for those that builds and version control keep."""
+    """The Markdown files, but for those that builds and tools keep."""
     paths = sorted(ROOT.rglob("*.md"))
-    return [path for path in paths if not {"out", ".git"} & {*path.relative_to(ROOT).parts}]
+    return [path for path in paths if not MADE.search(f"/{path.relative_to(ROOT)}")]
 
 
 def anchors(text):
