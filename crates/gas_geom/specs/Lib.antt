@@ -13,3 +13,4 @@ pub mod Parts
 pub mod Backwards
 pub mod Momentum
 pub mod Staggered
+pub mod HppRows

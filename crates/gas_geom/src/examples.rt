@@ -9,7 +9,9 @@ ghost use Rattle.gas_geom.specs.Channel.{ChannelModel, free_channel};
 ghost use Rattle.gas_geom.specs.Parts.{IsPartFrom, IsFarFromCuts};
 ghost use Rattle.gas_geom.specs.Momentum.{momentum_in, sent_back, is_wall, is_obstacle};
 ghost use Rattle.gas_geom.specs.Backwards.{IsSymmetric, renamed, reversed};
+ghost use Rattle.gas_geom.specs.Lattice.{next};
 ghost use Rattle.gas_geom.specs.Staggered.{staggered, horizontal, rising, falling};
+ghost use Rattle.gas_geom.specs.HppRows.{eastward, every_cell, even_cells, odd_cells};
 
 /// A particle that moves east moves northeast after a turn by a sixth, and one that moves southeast
 /// moves east. The mirror exchanges northeast and southeast, and keeps east. A particle at rest
@@ -125,4 +127,30 @@ pub fn staggered_sums()
         ≡ pos 0 }
     ensures along_falling { staggered fhp1 falling (free_channel 2 1) 0 ((0x24 ∷ 0x04 ∷ []) ∷ [])
         ≡ pos 0 }
+{}
+
+/// Eastward momenta in a row of HPP. Particles to the east in columns 0 and 1 and one to the west in
+/// column 2 are two on the even checkerboard and one on the odd one, in the next generation too. In
+/// a row of one cell a particle changes its checkerboard, and a solid cell turns it round.
+pub fn momenta_of_rows()
+    ensures even { eastward even_cells (free_channel 4 1) 0 0
+        ((0x01 ∷ 0x01 ∷ 0x04 ∷ 0x00 ∷ []) ∷ []) ≡ pos 0 }
+    ensures odd { eastward odd_cells (free_channel 4 1) 0 0
+        ((0x01 ∷ 0x01 ∷ 0x04 ∷ 0x00 ∷ []) ∷ []) ≡ pos 1 }
+    ensures next_generation { eastward odd_cells (free_channel 4 1) 0 1
+        ((0x00 ∷ 0x05 ∷ 0x01 ∷ 0x00 ∷ []) ∷ []) ≡ pos 1 }
+    ensures all { eastward every_cell (free_channel 4 1) 0 0
+        ((0x01 ∷ 0x01 ∷ 0x04 ∷ 0x00 ∷ []) ∷ []) ≡ pos 1 }
+    ensures another_row { eastward every_cell (free_channel 1 2) 1 0
+        ((0x01 ∷ []) ∷ (0x04 ∷ []) ∷ []) ≡ negsuc 0 }
+    ensures one_cell { eastward even_cells (free_channel 1 1) 0 0 ((0x01 ∷ []) ∷ []) ≡ pos 1 }
+    ensures one_cell_later { eastward even_cells (free_channel 1 1) 0 1
+        (next hpp (free_channel 1 1) (λ x y. false) ((0x01 ∷ []) ∷ [])) ≡ pos 0 }
+    ensures solid_cell { let channel : ChannelModel = record {
+      width = 2;
+      height = 1;
+      solid = (false ∷ true ∷ []) ∷ [];
+    } in
+        eastward every_cell channel 0 1 (next hpp channel (λ x y. false) ((0x01 ∷ 0x00 ∷ []) ∷ []))
+        ≡ negsuc 0 }
 {}

@@ -10,6 +10,7 @@ ghost use Rattle.gas_geom.specs.Parts.{IsPartFrom, IsFarFromCuts};
 ghost use Rattle.gas_geom.specs.Momentum.{momentum_in, sent_back, is_wall, is_obstacle};
 ghost use Rattle.gas_geom.specs.Backwards.{IsSymmetric, reversed};
 ghost use Rattle.gas_geom.specs.Staggered.{IsKept, horizontal, rising, falling};
+ghost use Rattle.gas_geom.specs.HppRows.{IsKeptInRows, every_cell, even_cells, odd_cells};
 
 use crate::gas::Gas;
 
@@ -90,4 +91,15 @@ pub fn staggered_momenta_are_kept()
         IsKept fhp_rest rising channel }
     ensures fhp_rest_falling { (channel : ChannelModel) → channel.width % 2 ≡ 0 →
         IsKept fhp_rest falling channel }
+{}
+
+/// Each row of HPP with no solid cell keeps its eastward momentum, whatever the rows beside it have:
+/// in channels of any width that of the whole row, in those of an even width that of each of its
+/// two checkerboards.
+pub fn rows_of_hpp_keep_their_momentum()
+    ensures whole { (channel : ChannelModel) → IsKeptInRows every_cell channel }
+    ensures even { (channel : ChannelModel) → channel.width % 2 ≡ 0 →
+        IsKeptInRows even_cells channel }
+    ensures odd { (channel : ChannelModel) → channel.width % 2 ≡ 0 →
+        IsKeptInRows odd_cells channel }
 {}
