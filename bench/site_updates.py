@@ -4,7 +4,8 @@ FHP-I, filled at rate 300: one stage on one thread, C on bit planes in place, on
 (tests/program/oracles/bands.c), and what one would write in an afternoon, in C (tests/program/oracles/bytes.c) and in numpy (bytes.py, if
 numpy is installed, and only with chirality "left"). Under a seed it also makes only the random bits of the same number of updates.
 
-Every program takes its turn in every round. A figure is the best of the rounds, followed by the middle one. The cost of reading and
+Every program takes its turn in every round. A figure is the best of the rounds, followed by the middle one, and the nanoseconds that a row and
+generation took in the best: a core is free if C in place, on one thread, takes 35 at 256 columns. The cost of reading and
 printing is taken off by runs of 0 generations: their best from the best, their middle from the middle, because the difference of two runs
 says little if the machine was slow in one of them. All must print the same cells. All are built for the level of the processor that the
 program was built for. Use an idle machine. Programs that keep a byte per cell compute a twentieth of the generations, and numpy a
@@ -30,6 +31,8 @@ SINGLE = [PROGRAM, "run", "--threads", "1", "--stages", "1", "--generations"]
 KEY_STREAM = [PROBES, "key_stream"]
 CELLS_OF_KEY_ROW = 4096 * 32
 LATTICES = [
+    "64x64x64000:left",
+    "192x192x16000:left",
     "256x256x8000:left",
     "256x256x8000:seeded",
     "1024x1024x1500:left",
@@ -171,15 +174,16 @@ class Bench:
 
     def table(self):
         print(f"\n{self.width} x {self.height}, {self.chirality}, {self.generations} generations\n")
-        print("| program | best | middle |\n|---|---|---|")
+        print("| program | best | middle | ns per row, best |\n|---|---|---|---|")
         for name, (whole, none) in self.seconds.items():
-            updates = (
+            updates = [
                 self.width * self.height / (of(whole) - of(none)) / 1e6
                 for of in (min, statistics.median)
-            )
+            ]
             print(
                 f"| {name} |",
                 *(f"{each:,.{0 if each >= 100 else 1}f} |" for each in updates),
+                f"{self.width / updates[0] * 1e3:,.1f} |",
                 flush=True,
             )
 

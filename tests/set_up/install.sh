@@ -5,7 +5,7 @@
 cd "$(dirname "$0")/../.." || exit 1
 tools='python3 shellcheck pyflakes3 black mypy spin bgolly:golly cc:gcc cc:libc6-dev pkg-config ffmpeg chromium chromedriver:chromium-driver
     firefox:firefox-esr node:nodejs tsc:node-typescript esbuild wasm-opt:binaryen rustc:rustc-web cargo:cargo-web
-    wasm-ld:lld'
+    wasm-ld:lld valgrind'
 crates='arrayvec clap crossbeam-utils rand-chacha rand-pcg thiserror toml' # of which plain Rust takes the sources
 sudo=$([ "$(id -u)" = 0 ] || echo sudo -n)
 log=$(mktemp)
