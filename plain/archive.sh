@@ -18,7 +18,7 @@ name=fhpgas-$version-rust
 made=$room/$name
 
 plain/workspace.py "$made" ${2:+--proved "$2"}
-cp out/checked/workspace/Cargo.lock "$made" 2> /dev/null || true
+cp out/checked/workspace/Cargo.lock "$made" 2> /dev/null || env -C "$made" cargo generate-lockfile --quiet # of which cargo package may write none
 (cd "$made" && cargo package --quiet --allow-dirty --no-verify && cp target/package/*.crate "$folder" && rm -r target) # for crates.io
 cp docs/NOTICES.md include/fhpgas.h "$made"
 registry=$(sed -n 's/^directory = "\(.*\)"/\1/p' "$made/.cargo/config.toml" 2> /dev/null) || true
@@ -31,7 +31,9 @@ else
 fi
 mkdir -p "$made/.cargo" "$room/licences/rust"
 printf '[source.%s]\n%s\n' crates-io 'replace-with = "vendor"' vendor 'directory = "vendor"' > "$made/.cargo/config.toml"
-for crate in "$made"/vendor/*; do
+crates=("$made"/vendor/*)
+if [ ${#crates[@]} = 0 ]; then echo 'cargo has no crate of others to pack' >&2; exit 1; fi
+for crate in "${crates[@]}"; do
     notices=("$crate"/LICENSE*) licences=$room/licences/$(basename "${crate%-*}")
     if [ ${#notices[@]} = 0 ]; then echo "$crate has no licence" >&2; exit 1; fi
     mkdir "$licences"

@@ -37,7 +37,9 @@ if [ ! -e out/record ]; then
     try 'its name is told' grep -q 'record that make test leaves, or is made with DRAFT=yes' "$room/told"
     grep -q '^repository-code: .' CITATION.cff || try 'so is the address' grep -q 'address of the project' "$room/told"
 fi
+mv out/checked/workspace/Cargo.lock "$room/tested.lock" # as in a clone that has no checked build
 try 'the release is made' env DRAFT=yes tools/release.sh "$room/release"
+mv "$room/tested.lock" out/checked/workspace/Cargo.lock
 version=$(crates/fhpgas/out/fhpgas --version | cut -d ' ' -f 2)
 archive=fhpgas-$version-linux-x86-64.tar.gz
 try 'it has archive, page and lesson' has_files "$archive" fhpgas.html LESSON.md NOTICES.md LICENSE-MIT LICENSE-APACHE
