@@ -55,6 +55,7 @@ alone = exec {held}< crates.txt; flock -n $$held || { echo 'waiting for another 
 define begin
 $(alone)
 ! make -sq CPU=$(CPU) $@ || exit 0
+type python3 > /dev/null 2>&1 || { echo 'Python 3.11 is missing, which the kit and this build need: apt-get install python3' >&2; exit 1; }
 said=$$(rt doc 2>&1) || { echo "the Rattle kit does not answer, see README.md: $$said" >&2; exit 1; }
 cd crates/$1
 mkdir -p out && rm -f out/level && touch out/begun

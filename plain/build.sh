@@ -6,7 +6,7 @@
 #   plain/build.sh trusted          prints the name of these sources, nothing if they were edited, and builds nothing
 #
 # The Python package has the library too unless it has a better one. The crates of others are Debian's packages if they are here, else cargo
-# downloads them. QUIET=yes prints nothing but errors.
+# downloads them. QUIET=yes prints nothing but errors, and on a terminal cargo's progress.
 set -euo pipefail
 shopt -s extglob nullglob
 if [ -z "${1-}" ]; then sed -n 's/^# \?//p' "$0" >&2; exit 2; fi
@@ -17,9 +17,9 @@ trusted=$(git log -1 --format='commit %h' -- "${sources[@]}" 2> /dev/null || sed
 [ -z "$(git status --porcelain -- "${sources[@]}" 2> /dev/null)" ] || trusted=''
 if [ "$1" = trusted ]; then echo "$trusted" && exit; fi
 mkdir -p "$folder"
-wants='plain Rust needs cargo 1.85 and some crates. On Debian 12:
-    apt-get install rustc-web cargo-web librust-{arrayvec,clap,crossbeam-utils,rand-chacha,rand-pcg,thiserror,toml}-dev'
-command -v cargo > /dev/null || { echo "$wants" >&2; exit 1; }
+wants='plain Rust needs Python 3.11, cargo 1.85 and some crates. On Debian 12:
+    apt-get install python3 rustc-web cargo-web librust-{arrayvec,clap,crossbeam-utils,rand-chacha,rand-pcg,thiserror,toml}-dev'
+type python3 cargo > /dev/null 2>&1 || { echo "$wants" >&2; exit 1; }
 
 touch "$folder/begun"
 level=native
@@ -30,8 +30,12 @@ elif [ -z "$trusted" ]; then
     echo 'the sources were edited after their proof, so every index is tested' >&2
 fi
 plain/workspace.py "$folder/workspace" ${trusted:+--proved "$trusted"}
+# what cargo keeps names the place of its sources, so a copy of this folder would build those that it was copied from
+[ "$(cat "$folder/place" 2> /dev/null)" = "$folder" ] || rm -rf "$folder/workspace/target"
+echo "$folder" > "$folder/place"
+[ -z "${QUIET-}" ] || [ -t 2 ] || quiet=yes
 cd "$folder/workspace"
-RUSTFLAGS=${level:+-Ctarget-cpu=$level} cargo build --release --package engine ${QUIET:+--quiet} || { echo "$wants" >&2; exit 1; }
+RUSTFLAGS=${level:+-Ctarget-cpu=$level} cargo build --release --package engine ${quiet:+--quiet} || { echo "$wants" >&2; exit 1; }
 cd - > /dev/null
 for file in "$folder"/workspace/target/release/{fhpgas,libfhpgas.so,libfhpgas.dylib,fhpgas.dll} include/fhpgas.h; do
     [ -e "$file" ] || continue

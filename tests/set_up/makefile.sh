@@ -99,12 +99,13 @@ mv "$kit/bin/rt" "$room/rt"
 try 'without the kit a program that is older than its sources runs' launch
 try 'with a warning' grep -q 'this program is older than its sources' "$room/told"
 rm crates/fhpgas/out/fhpgas
-try 'and without a program and without Rust it says what is missing' fails 'plain Rust needs cargo'
-try 'with the packages' grep -q 'apt-get install rustc-web cargo-web' "$room/told"
+try 'and without a program and without Rust it says what is missing' fails 'plain Rust needs Python 3.11, cargo'
+try 'with the packages' grep -q 'apt-get install python3 rustc-web cargo-web' "$room/told"
 try 'and no more' [ "$(wc -l < "$room/told")" = 2 ]
 cat > "$kit/bin/cargo" << 'END'
 #!/bin/sh
 echo plain >> "$room/built"
+case $* in *--quiet) ;; *) echo progress >&2 ;; esac
 mkdir -p target/release && cp "$room/plain" target/release/fhpgas
 END
 printf '#!/bin/sh\necho "words $*"\ncat\nexit 3\n' > "$room/plain" && chmod +x "$kit/bin/cargo" "$room/plain"
@@ -112,12 +113,20 @@ try 'with Rust it is built by plain Rust' builds 'plain' launch
 try 'which is announced once' [ "$(grep -c 'plain Rust builds this program, not proved' "$room/told")" = 1 ] && [ "$(wc -l < "$room/told")" = 1 ]
 try 'and then it is run' builds '' quietly
 try 'after an edit it is built again' edited fhpgas/src/main.rt builds 'plain' launch
-rm "$kit/bin/cargo" && edit fhpgas/src/main.rt
+edit fhpgas/src/main.rt
+try 'on a terminal with the progress of cargo' grep -q progress <(script -qec './fhpgas < /dev/null' /dev/null)
+touch out/plain/workspace/target/kept && edit fhpgas/src/main.rt
+try 'over what cargo kept' eval 'launch && [ -e out/plain/workspace/target/kept ]'
+cp -a "$top" "$room/copy" && cd "$room/copy" && edit fhpgas/src/main.rt
+try 'but what it kept for other sources is dropped in a copy' eval 'launch && [ ! -e out/plain/workspace/target/kept ]'
+cd "$top" && rm "$kit/bin/cargo" && edit fhpgas/src/main.rt
 try 'without Rust a plain program that is there runs' builds '' launch
 mv "$room/rt" "$kit/bin/rt"
 echo "env: 'python3': No such file" > "$room/no_kit"
 try 'a kit that does not run ends with status 70 too, and what it said is shown' fails "the Rattle kit does not answer.*: env: 'python3': No such file"
-rm "$room/no_kit"
+mv "$kit/bin/python3" "$room"
+try 'but Python is named if it is what is missing' fails '^Python 3.11 is missing'
+mv "$room/python3" "$kit/bin" && rm "$room/no_kit"
 
 # meanwhile COMMAND..: runs a build that takes a while, and this in the middle of it
 meanwhile() {
