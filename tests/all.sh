@@ -13,6 +13,7 @@ touch "$room/parts"
 tests() {
     local mark words status
     for mark in 'not alone' alone; do
+        [ "$mark" != alone ] || grep -qs 'mark\.alone' -- "$@" || continue
         words=("$@") status=0
         [ "$mark" = alone ] || words+=(-n "$(nproc)")
         pytests -m "$mark" "${words[@]}" 2>&1 | tee "$room/log" || status=$?
@@ -36,12 +37,17 @@ examples() {
 }
 
 # quick: for the time between edits. A program that FHPGAS names, or that is built and newer than the sources, is tried from outside, else a
-# few worked examples by `rt try`, in some minutes. Nothing is proved.
+# few worked examples by `rt try`, in some minutes. Nothing is proved. Without the kit the program is the launcher's, which builds it first.
 quick() {
     sources
-    if [ -n "${FHPGAS-}" ] || make -sq "$program"; then
+    if [ -z "${FHPGAS-}" ] && [ -e crates.txt ] && ! command -v rt > /dev/null; then
+        [ -x "$program" ] || has cargo 'the program' || return 0
+        FHPGAS=$(tools/program) || { bad+=('plain Rust builds') && return; }
+        export FHPGAS
+    fi
+    if [ -n "${FHPGAS-}" ] || [ ! -e crates.txt ] || make -sq "$program"; then
         tests tests/program/{command_line,help,mutated_scenes}.py tests/documents/printed_commands.py "${package[@]}" --scenes 300
-    elif has rt 'the program'; then
+    else
         try 'the worked examples' examples check_rectangles head_on_left obstacle_1 seeded_pairs filling coarse_uneven replay_done
     fi
 }
@@ -76,15 +82,22 @@ gate() {
     fi
 }
 
-set_up() {
-    tests/set_up/install.sh || exit 1
+has_pytest() {
     "$(tests/lib/needs.py | sed -n 1p)" -c 'import pytest, xdist' 2> /dev/null && return
     echo 'tests: the tests want pytest: apt-get install python3-pytest python3-pytest-xdist' && exit 1
 }
 
+set_up() {
+    tests/set_up/install.sh || exit 1
+    has_pytest
+}
+
 bad=()
 case $1 in
-    quick) quick ;;
+    quick)
+        has_pytest
+        quick
+        ;;
     package)
         set_up
         if [ -z "${FHPGAS-}" ] && [ -e crates.txt ] && ! command -v rt > /dev/null && ! make -sq "$program"; then
@@ -99,7 +112,6 @@ case $1 in
         sources
         tests tests/scripts.py -k 'missing_libraries or makefile'
         tests tests/program/lost_wake_ups.py
-        [ ${#bad[@]} = 0 ] || exit 1
         if has rt 'the proofs, and the tests of help, terminal, refused memory, library, release and first change'; then
             gate
             tests tests/program/wrong_bodies.py --gate "$room/gate"

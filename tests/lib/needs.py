@@ -32,15 +32,24 @@ if signal.getsignal(signal.SIGINT) is signal.SIG_IGN:  # as in the background of
     signal.signal(signal.SIGINT, signal.default_int_handler)
 
 
+def launched():
+    """The path of the program that ./fhpgas runs, which builds it first if it is older than its sources."""
+    asked = subprocess.run([ROOT / "tools/program"], stdout=subprocess.PIPE, text=True)
+    return asked.stdout.strip() or sys.exit("./fhpgas cannot be built")
+
+
 def built_program(name="fhpgas"):
-    """The path of a program: of fhpgas the one that FHPGAS names or an unpacked archive has, of all
-    others the one that rt leaves. The programs that a script starts use it too."""
+    """The path of a program: of fhpgas the one that FHPGAS names, an unpacked archive has, or the
+    launcher takes where the kit is not here; of all others the one that rt leaves. The programs that a
+    script starts use it too."""
     target = f"crates/{name}/out/{name}"
     path = ROOT / target
     if name == "fhpgas":
         is_archive = not (ROOT / "crates.txt").exists()
         own = ROOT / "fhpgas" if is_archive else path
-        path = pathlib.Path(os.environ.get("FHPGAS") or own).absolute()
+        has_own = is_archive or shutil.which("rt")
+        path = os.environ.get("FHPGAS") or (own if has_own else launched())
+        path = pathlib.Path(path).absolute()
         is_new = is_archive or not subprocess.call(["make", "-sqC", ROOT, target])
         if path != own or not is_new:
             os.environ["FHPGAS"] = str(path)

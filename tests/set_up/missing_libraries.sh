@@ -5,7 +5,7 @@
 
 top=$room/top venv=$room/cache/fhpgas-tests
 mkdir -p "$top"/tests/{lib,set_up} "$room/index" "$room/bin" && cp tests/lib/needs.py "$top/tests/lib"
-sed '/^tools=/,/^crates=/d' tests/set_up/install.sh > "$top/tests/set_up/install.sh" && chmod +x "$top/tests/set_up/install.sh"
+sed '/^tools=/,/^crates=/d; /rust-web-src/d' tests/set_up/install.sh > "$top/tests/set_up/install.sh" && chmod +x "$top/tests/set_up/install.sh"
 export PIP_NO_INDEX=1 PIP_FIND_LINKS=$room/index XDG_CACHE_HOME=$room/cache PATH=$room/bin:$PATH
 unset SETUP
 stub() { printf '#!/bin/sh\n%s\n' "$2" > "$room/bin/$1" && chmod +x "$room/bin/$1"; }
