@@ -12,7 +12,7 @@ from typing import Any
 
 import numpy as np
 
-from .arrays import Ints, Mask, array_of, floats_of
+from .arrays import Ints, Mask, floats_of, mask
 from .fault import Fault, integer, library, real
 from .fields import CACHED, AnySize, lots_of, size_of
 from .gases import AnyGas, gas_named
@@ -209,7 +209,7 @@ def bitmap(
         As in `disc`.
     picture : path or array of bool
         A file that Pillow reads, whose pixels are dark if they are black, or darker than half of
-        white, and not transparent. Or truth values [y, x].
+        white, and not transparent. Or truth values [y, x], as `image < 128`.
     pixel : float, optional
         The width and height of a pixel in cells' widths.
     column, row : int, optional
@@ -222,7 +222,7 @@ def bitmap(
     Raises
     ------
     Fault
-        If the picture leaves the channel, or its file cannot be read.
+        If the picture leaves the channel, its file cannot be read, or an array has greys.
 
     Examples
     --------
@@ -246,11 +246,11 @@ def _dark(picture: Any) -> Mask:
     """Whether the pixels [y, x] of a picture are dark: black, or darker than half of white, and not
     transparent."""
     if not isinstance(picture, (str, os.PathLike)):
-        dark = array_of("a picture", picture)
-        if dark.ndim != 2 or not dark.size:
+        shape = np.shape(picture)
+        if len(shape) != 2 or 0 in shape:
             what = "the path of a file or an array [y, x]"
-            raise Fault(f"a picture is {what}, not of the shape {dark.shape}")
-        return dark.astype(bool)
+            raise Fault(f"a picture is {what}, not of the shape {shape}")
+        return mask(picture)
     images = library("PIL.Image")
     try:
         with images.open(picture) as image:

@@ -157,7 +157,7 @@ def test_a_picture_is_a_mask(tmp_path):
     grey.convert("1", dither=Image.Dither.NONE).save(tmp_path / "bits.pbm")
     for k, image in enumerate((grey, grey.convert("P"), grey.convert("RGB"), clear, deep)):
         image.save(tmp_path / f"{k}.png")
-    for picture in (*tmp_path.iterdir(), dark, dark.tolist()):
+    for picture in (*tmp_path.iterdir(), dark, dark.tolist(), 1 * dark, np.asarray(grey) < 128):
         found = fhpgas.bitmap(Size(12, 9), picture, 1, 2, 3, "hpp")
         assert found[3:8, 2:6].tolist() == dark.tolist()
         assert found.sum() == dark.sum()

@@ -103,6 +103,9 @@ bitmap(Size(64, 48), solid, 1e308)                  a number from 1e-09 to 65536
 bitmap(Size(64, 40), "no.png")                      no.png: No such file
 bitmap(Size(64, 40), [1, 2, 3])                     not of the shape (3,)
 bitmap(Size(64, 48), solid, 0)                      the width of a pixel is a number
+bitmap(Size(64, 48), 255 * solid.astype(np.uint8))  compare an image with a number, as in `image > 127`
+bitmap(Size(64, 48), np.where(solid, 0.1, 1.0))     not float64: compare an image with a number
+bitmap(Size(64, 48), np.ones((9, 9, 4)))            not of the shape (9, 9, 4)
 next(start.driven(20))                              either by a force or towards a mean flow
 next(start.driven(20, 7, force=1))                  20 generations are not a multiple of 7
 next(start.driven(20, force=nan))                   a force is a number from -2 to 2, not nan
