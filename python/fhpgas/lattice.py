@@ -78,6 +78,8 @@ class Lattice(Value):
         seed: int = 0,
         generation: int = 0,
     ):
+        if isinstance(states, Lattice):
+            raise Fault("a lattice does not change, so it needs no copy: see `replace`")
         named, given = gas_named(gas), array_of("states", states)
         walls, shape = np.zeros(given.shape, bool) if solid is None else mask(solid), given.shape
         is_of_cells = all(1 <= side <= limits.MOST_SIDE for side in shape) and len(shape) == 2

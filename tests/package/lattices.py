@@ -32,6 +32,7 @@ Lattice([1])                                        arrays [y, x] of one shape, 
 Lattice([[1, 2]], [[0]])                            not (1, 2) and (1, 1)
 Lattice([[1]], [[1]])                               row 0 column 0 is solid and contains a particle
 Lattice([[1]], [[0.5]])                             solid cells are an array of truth values
+Lattice(start)                                      a lattice does not change, so it needs no copy: see `replace`
 gas(0.2, solid=255 * np.ones((4, 4), np.uint8))     compare an image with a number
 forces(start)                                       a lattice of generation 0 has had no collision with a wall
 film("a.gif", start)                                a film or a strip has several states
