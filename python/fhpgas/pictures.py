@@ -100,6 +100,9 @@ def prepared(
         if many and np.array_equal(shown.solid, many[-1].solid):
             shown = shown._replace(solid=many[-1].solid)
         many.append(shown)
+        if shown.source.size != (first := many[0].source.size):
+            found = f"{first} and of {shown.source.size} cells"
+            raise Fault(f"a film or a strip has states of one size, and these are of {found}")
     if not many:
         raise Fault("a picture has a state or more")
     if many[0].values is None:
@@ -349,7 +352,7 @@ def film(
     Raises
     ------
     Fault
-        If the file cannot be written, or there is no frame.
+        If the file cannot be written, there is no frame, or frames differ in size.
 
     Examples
     --------

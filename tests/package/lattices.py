@@ -115,6 +115,8 @@ gas(0, size=Size(4, 4)).driven(20, force=1)         no particle that could be fl
 start.driven(20, force=1, along="x")                a force acts along one of rows, directions, not 'x'
 film("a.gif", [])                                   a state or more
 strip([])                                           a state or more
+film("a.gif", [start, large], "speed")              states of one size, and these are of 66 x 9 and of 256 x 96 cells
+strip([large.blocks(), start.blocks()])             states of one size, and these are of 256 x 96 and of 66 x 9 cells
 film("a.avi", [large])                              a film is written as
 plot(AREA)                                          a Lattice or of Blocks
 plot(large, "particles")                            no picture of 'particles'
