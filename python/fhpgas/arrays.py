@@ -24,9 +24,11 @@ def read_only(array: Same) -> Same:
 
 
 def array_of(what: str, values: Any) -> Array:
-    """Values as an array. Masked ones, which numpy's functions would take for values, raise a Fault
-    that begins with `what`."""
+    """Values as an array. Masked ones, which numpy's functions would take for values, and texts,
+    which some of them would read, raise a Fault that begins with `what`."""
     found = np.ma.asarray(values)
+    if found.dtype.kind in "SU":
+        raise Fault(f"{what}: these are texts, and numbers are wanted")
     if np.ma.is_masked(found):
         raise Fault(f"{what}: a masked value is none, so fill it first, as by .filled(0)")
     return np.asarray(found.data)

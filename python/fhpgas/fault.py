@@ -40,10 +40,10 @@ def integer(what: str, value: SupportsIndex, least: int = 0, most: int | None = 
 
 
 def real(what: str, value: Any, least: float = -math.inf, most: float = math.inf) -> float:
-    """A value as a finite float from `least` to `most`. Anything else raises a Fault that begins
-    with `what`."""
+    """A value as a finite float from `least` to `most`. Anything else, also the text of a number,
+    raises a Fault that begins with `what`."""
     with contextlib.suppress(TypeError, ValueError, OverflowError):
-        if math.isfinite(number := float(value)) and least <= number <= most:
+        if math.isfinite(value) and least <= (number := float(value)) <= most:
             return number
     raise Fault(f"{what} is a number from {least:g} to {most:g}, not {reprlib.repr(value)}")
 

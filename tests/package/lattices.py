@@ -31,6 +31,7 @@ Lattice([[0.5]])                                    of the type float64
 Lattice([1])                                        arrays [y, x] of one shape, 1 to 65536 each way, not (1,) and (1,)
 Lattice([[1, 2]], [[0]])                            not (1, 2) and (1, 1)
 Lattice([[1]], [[1]])                               row 0 column 0 is solid and contains a particle
+Lattice([["1"]])                                    states: these are texts
 Lattice([[1]], [[0.5]])                             solid cells are an array of truth values
 Lattice(start)                                      a lattice does not change, so it needs no copy: see `replace`
 gas(0.2, solid=255 * np.ones((4, 4), np.uint8))     compare an image with a number
@@ -91,9 +92,13 @@ gas(0.2, size=Size(70000, 1))                       1 to 65536 each way
 gas(np.ones((3, 4)), size=Size(4, 4))               the field `filling` has the shape (3, 4), and the lattice 4 rows and 4 columns
 gas(0.2, size=Size(9, 9), solid=solid)              the field `solid` has the shape (47, 64)
 gas(np.ones((4, 5)), np.ones((2, 3)))               which do not fit together
+gas("0.2", size=Size(4, 4))                         the field `filling`: these are texts
 gas(0.2, None, size=Size(4, 4))                     the field `east` is numbers or a function of the place, not None
 disc(Size(64, 24), 64, 0, 1)                        the column of a disc is an integer from 0 to 63, not 64
 disc(Size(64, 24), 0, 0, nan)                       the radius of a disc is a number from 0 to inf, not nan
+disc(Size(64, 24), 0, 0, "3")                       the radius of a disc is a number from 0 to inf, not '3'
+disc(Size(64, 24), 0, 0, b"3")                      the radius of a disc is a number from 0 to inf, not b'3'
+polygon(Size(9, 9), [("1", 2), (3, 4), (0, 5)])     corners: these are texts
 polygon(Size(9, 9), [(1, 2), (3, 4)])               a polygon has three corners (column, row) or more
 polygon(Size(9, 9), [1, 2, 3, 4, 5, 6])             a polygon has three corners (column, row) or more
 polygon(Size(9, 9), [(0, 0), (1, inf), (1, 1)])     at most 1e+06 away, not [(0, 0), (1, inf), (1, 1)]
@@ -104,6 +109,9 @@ bitmap(Size(64, 48), solid, 1e308)                  a number from 1e-09 to 65536
 bitmap(Size(64, 40), "no.png")                      no.png: No such file
 bitmap(Size(64, 40), [1, 2, 3])                     not of the shape (3,)
 bitmap(Size(64, 48), solid, 0)                      the width of a pixel is a number
+bitmap(Size(64, 48), solid, "2")                    the width of a pixel is a number
+mean_of_series(["1", "2"])                          values: these are texts
+flux("hpp", ["1"] * 4)                              numbers by direction: these are texts
 bitmap(Size(64, 48), 255 * solid.astype(np.uint8))  compare an image with a number, as in `image > 127`
 bitmap(Size(64, 48), np.where(solid, 0.1, 1.0))     not float64: compare an image with a number
 bitmap(Size(64, 48), np.ones((9, 9, 4)))            not of the shape (9, 9, 4)
@@ -121,6 +129,7 @@ film("a.avi", [large])                              a film is written as
 plot(AREA)                                          a Lattice or of Blocks
 plot(large, "particles")                            no picture of 'particles'
 film("a.gif", [large], fps=0)                       frames per second
+film("a.gif", [large], fps="3")                     frames per second
 """
 
 CHIRALITIES = "seeded", "left", "right"
