@@ -17,6 +17,7 @@ Lengths are in cells' widths, times in generations. Input that does not fit rais
 line, a ValueError. `explain(scene)` says where and why a scene is refused, and needs the standard
 library only. The rest needs numpy, pictures need matplotlib, and some functions scipy. `build()`
 says what engine and program are. This package is not proved."""
+import importlib
 import importlib.util
 import sys
 
@@ -52,8 +53,14 @@ if importlib.util.find_spec("numpy"):
     __all__ += ["film", "flux", "forces", "gas_named", "mean_and_error", "mean_of_series", "nozzle"]
     __all__ += ["numbers", "plot", "polygon", "porous", "positions", "read_cells", "read_table"]
     __all__ += ["run", "shapes", "staggered", "strip", "theory"]
-else:
 
-    def __getattr__(name: str) -> object:
+
+def __getattr__(name: str) -> object:
+    """`tiles`, which needs Dask and so is imported when it is asked for. Nothing else is missing,
+    but what needs numpy if there is none."""
+    if "Lattice" not in __all__:
         why = "needs numpy, and this Python has none (Debian: python3-numpy)"
         raise AttributeError(f"fhpgas.{name} {why}")
+    if name == "tiles":
+        return importlib.import_module("fhpgas.tiles")
+    raise AttributeError(f"module 'fhpgas' has no attribute {name!r}")

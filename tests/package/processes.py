@@ -78,6 +78,8 @@ def test_the_program_is_found(tmp_path):
     others = "{'numpy', 'matplotlib', 'scipy', 'PIL', 'distributed'}"
     words[2] = f"import fhpgas, sys; print({others} & {{*sys.modules}})"
     assert ran() == "{'numpy'}\n"
+    words[2] = "import fhpgas; print(fhpgas.tiles.Tiles.__module__, hasattr(fhpgas, 'tile'))"
+    assert ran() == "fhpgas.tiles False\n"
 
 
 def test_a_plan_is_chosen_from_the_cores_of_the_process():
