@@ -81,14 +81,15 @@ def build() -> dict[str, str]:
     Returns
     -------
     dict of str
-        By `engine` and `program`. The text ends with "not proved" if plain Rust built it.
+        By `engine` and `program`. The text ends with "not proved" if plain Rust built it. What the
+        kit built has its checksums in the file RECORD of an archive, not in the one of pip's.
 
     Examples
     --------
     >>> sorted(fhpgas.build())
     ['engine', 'program']
     """
-    proved = "made by the kit, compare with RECORD"
+    proved = "made by the kit, compare with RECORD of an archive"
     engine, program = "none, or no numpy to call it", "none"
     with contextlib.suppress(ModuleNotFoundError):
         if found := importlib.import_module("fhpgas.engine").library():

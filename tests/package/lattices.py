@@ -250,7 +250,8 @@ def test_maps_are_read_without_the_program_as_the_program_reads_them(tmp_path):
 def test_what_is_built_says_what_it_is():
     told = subprocess.check_output([PROGRAM, "--version"], text=True)
     text, found = re.search(r"\((.*)\)", told)[1], fhpgas.build()
-    wanted = text if text.endswith("not proved") else "made by the kit, compare with RECORD"
+    proved = "made by the kit, compare with RECORD of an archive"
+    wanted = text if text.endswith("not proved") else proved
     assert found["program"] == wanted
     is_plain = b"fhpgas_not_proved" in pathlib.Path(engine.library()._name).read_bytes()
     assert found["engine"].endswith("not proved") == is_plain
