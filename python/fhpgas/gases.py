@@ -11,6 +11,8 @@ from .arrays import Floats, Ints, States, Sums, read_only
 from .fault import Fault
 from .gas_table import CHIRALITIES
 from .limits import DRIVES
+from .reader import STATES as STATE_NUMBERS
+from .reader import closest
 
 AnyGas: TypeAlias = "Literal['fhp1', 'hpp', 'fhp-rest'] | Gas"
 Chirality: TypeAlias = Literal["seeded", "left", "right"]
@@ -139,8 +141,9 @@ def gas_named(name: AnyGas) -> Gas:
     if isinstance(name, Gas):
         return name
     if not isinstance(name, str) or name not in GASES:
-        found = f"{', '.join(GASES)}, not {reprlib.repr(name)}"
-        raise Fault(f"a gas is one of {found}: fhp-rest is FHP-II")
+        here, is_published = closest(str(name), STATE_NUMBERS)
+        hint = f": {here} is {name}" if here and is_published else ""
+        raise Fault(f"a gas is one of {', '.join(GASES)}, not {reprlib.repr(name)}{hint}")
     return GASES[name]
 
 

@@ -41,6 +41,8 @@ film("no/a.gif", [start])                           no/a.gif: No such file or di
 mean([start.blocks(), start.blocks()])              blocks are added
 start.plot("speed", 1, block=8)                     a block is two integers, columns and rows, not 8
 Lattice([[0]], gas="FHP-II")                        a gas is one of fhp1, hpp, fhp-rest, not 'FHP-II': fhp-rest is FHP-II
+Lattice([[0]], gas="fhp 2")                         not 'fhp 2': fhp-rest is fhp 2
+Lattice([[0]], gas="FHP-I")                         not 'FHP-I': fhp1 is FHP-I
 Lattice([[0]], chirality="up")                      a chirality is one of seeded, left, right, not 'up'
 Lattice([[0]], seed=-1)                             a seed is an integer from 0 to 9223372036854775807, not -1
 start.replace(seed=1.0)                             not 1.0
@@ -255,6 +257,12 @@ def test_what_is_built_says_what_it_is():
     assert found["program"] == wanted
     is_plain = b"fhpgas_not_proved" in pathlib.Path(engine.library()._name).read_bytes()
     assert found["engine"].endswith("not proved") == is_plain
+
+
+def test_names_of_no_gas_here_have_no_hint():
+    for other in "FHP-III", "lbm", "", 3, None:
+        with pytest.raises(fhpgas.Fault, match="not [^:]+$"):
+            fhpgas.gas_named(other)
 
 
 def test_a_missing_library_is_a_fault_that_names_it():
