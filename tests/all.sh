@@ -25,7 +25,7 @@ tests() {
 # sources: what needs no program
 sources() {
     tests tests/scripts.py -k lint
-    tests tests/documents/{links,sentences,budgets,definitions,proved}.py tests/program/code_without_contract.py \
+    tests tests/documents/{links,sentences,budgets,definitions,proved,promises}.py tests/program/code_without_contract.py \
         tests/package/{imports,derivation,tested_functions}.py
 }
 

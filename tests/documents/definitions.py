@@ -115,7 +115,6 @@ def traits(text):
 def contracts(text, kinds="requires|ensures"):
     """The clauses of public functions and traits, and the types as which callers see public values."""
     text = re.sub(r"//[^\n]*", "", text)
-    text = re.sub(r";\s*\w+\]", "]", text)  # an array's length does not end a signature
     private = set(re.findall(r"^(?:pub\(crate\) )?(?:struct|enum) (\w+)", text, re.M))
     for _, body in traits(text):
         yield from clauses(body, r"^    fn \w+", kinds)
@@ -127,14 +126,17 @@ def contracts(text, kinds="requires|ensures"):
     yield from clauses(text, r'^ *pub (?:extern "C" )?fn \w+', kinds)
 
 
+def contract(text, place):
+    """The clauses of the function whose head is at this place: each its word, its name, "" if it has none, and its text."""
+    rest = re.compile(r"\b(requires|ensures)\b(?: (\w+))?\s*\{|\{|;$", re.M)
+    while (found := rest.search(text, place)) and found[1]:
+        clause, place = braced(text, found.end() - 1)
+        yield found[1], found[2] or "", clause
+
+
 def clauses(text, head, kinds):
-    rest = re.compile(r"\b(requires|ensures)(?: \w+)?\s*\{|[{;]")
     for function in re.finditer(head, text, re.M):
-        place = function.end()
-        while (found := rest.search(text, place)) and found.group() not in "{;":
-            clause, place = braced(text, found.end() - 1)
-            if found.group(1) in kinds:
-                yield clause
+        yield from (it for kind, _, it in contract(text, function.end()) if kind in kinds)
 
 
 def specs(crate, file):

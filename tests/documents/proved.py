@@ -2,8 +2,10 @@
 file has a function of that name with these clauses. It also compares the C functions that the page
 lists with those that the kit names in the log of the program, which `make` leaves."""
 
+import functools
 import re
 
+import definitions
 import needs
 import pytest
 
@@ -12,22 +14,30 @@ LOG = needs.ROOT / "crates/fhpgas/out/build.log"
 PROMISES = ("## The promises", "## What only tests show")
 TEXT = PAGE.read_text()
 FILES = dict(re.findall(r"^\[([\w:]+)\]: (\S+)$", TEXT, re.M))
+HEAD = re.compile(
+    r"^(?:impl(?:<.*?>)? (?:[\w<>, ]+ for )?|pub trait )(\w+)|^\}"
+    r'|^( *)(?:pub(?:\([^)]*\))? )?(?:extern "C" )?fn (\w+)',
+    re.M,
+)
 CITED = re.compile(r"\[(`\w+`(?:,\s+`\w+`)*)\]\[([\w:]+)\]")
 
 
+def functions(path):
+    """The functions of a source: each with its type or trait, or "", its head up to the contract, and its clauses."""
+    text, owner = re.sub(r"//[^\n]*", "", path.read_text()), ""
+    for head in HEAD.finditer(text):
+        if head[3]:
+            clauses = list(definitions.contract(text, head.end()))
+            takes = re.match(r".*?(?=\s(?:requires|ensures)\b|\s\{|;$)", text[head.end() :], re.S | re.M)
+            yield owner if head[2] else "", head[3], takes[0], clauses
+        else:
+            owner = head[1] or ""
+
+
+@functools.cache
 def clauses(path):
-    """The clauses of each function of a source: {(type or trait, or "", function): names}."""
-    found, owner, function = {}, "", None
-    for line in path.read_text().split("\n"):
-        if head := re.match(r"(?:impl(?:<.*?>)? (?:[\w<>, ]+ for )?|pub trait )(\w+)", line):
-            owner = head[1]
-        elif line.startswith("}"):
-            owner = ""
-        if head := re.match(r'\s*(?:pub(?:\([^)]*\))? )?(?:extern "C" )?fn (\w+)', line):
-            function = (owner if line.startswith(" ") else "", head[1])
-        if clause := re.match(r"\s*(?:requires|ensures)\*? (\w+) \{", line):
-            found.setdefault(function, set()).add(clause[1])
-    return found
+    """The names of the clauses of each function of a source."""
+    return {(owner, name): {it[1] for it in has} for owner, name, _, has in functions(path)}
 
 
 def assumed(log):
