@@ -18,6 +18,7 @@ import unittest
 sys.path.append(f"{sys.path[0]}/../lib")
 import antt
 import needs
+import sources
 
 CRATES = needs.ROOT / "crates"
 INNER = "-- Inner words"
@@ -96,20 +97,10 @@ def public_texts(crate):
                 waiting += [folder / f"{module}.rt", folder / module / "mod.rt"]
 
 
-def braced(text, at):
-    """The text in the braces that open at `at`, and the place after them."""
-    depth = 0
-    for place in range(at, len(text)):
-        depth += {"{": 1, "}": -1}.get(text[place], 0)
-        if depth == 0:
-            return text[at + 1 : place], place + 1
-    raise ValueError("a brace is not closed")
-
-
 def traits(text):
     """The public traits, by their names and their bodies."""
     for trait in re.finditer(r"^pub trait (\w+)[^{]*\{", text, re.M):
-        yield trait[1], braced(text, trait.end() - 1)[0]
+        yield trait[1], sources.braced(text, trait.end() - 1)[0]
 
 
 def contracts(text, kinds="requires|ensures"):
@@ -121,22 +112,16 @@ def contracts(text, kinds="requires|ensures"):
         yield from re.findall(r"ghost \w+: (\{[^\n]*\});", body)
     for model in re.finditer(r"^impl(?:<[^{]*?>)? Model for (\w+)[^{]*\{", text, re.M):
         if model.group(1) not in private:
-            yield from re.findall(r"ghost Value = (\{[^\n]*\});", braced(text, model.end() - 1)[0])
+            of_model = sources.braced(text, model.end() - 1)[0]
+            yield from re.findall(r"ghost Value = (\{[^\n]*\});", of_model)
     yield from re.findall(r"ghost from_gives = (\{[^\n]*\});", text)
     yield from clauses(text, r'^ *pub (?:extern "C" )?fn \w+', kinds)
 
 
-def contract(text, place):
-    """The clauses of the function whose head is at this place: each its word, its name, "" if it has none, and its text."""
-    rest = re.compile(r"\b(requires|ensures)\b(?: (\w+))?\s*\{|\{|;$", re.M)
-    while (found := rest.search(text, place)) and found[1]:
-        clause, place = braced(text, found.end() - 1)
-        yield found[1], found[2] or "", clause
-
-
 def clauses(text, head, kinds):
     for function in re.finditer(head, text, re.M):
-        yield from (it for kind, _, it in contract(text, function.end()) if kind in kinds)
+        found = sources.contract(text, function.end())
+        yield from (clause for kind, _, clause in found if kind in kinds)
 
 
 def specs(crate, file):

@@ -18,12 +18,12 @@ import textwrap
 sys.path.append(f"{sys.path[0]}/../lib")
 import definitions
 import needs
-import proved
 import pytest
+import sources
 
 KEPT = needs.ROOT / "tests/documents/promises.txt"
 CHANGELOG = needs.ROOT / "CHANGELOG.md"
-EXAMPLES = re.findall(r"\]\((\.\./crates/[\w/]+\.rt)\)", proved.TEXT)
+EXAMPLES = re.findall(r"\]\(\.\./(crates/[\w/]+\.rt)\)", sources.PROVED.read_text())
 PLACES = r"`[^`]+`(?:,? (?:and )?`[^`]+`)*"
 ITEM = re.compile(
     rf"`([^`]+)` (?:became `([^`]+)` in ({PLACES})|is gone from ({PLACES})|is renamed `([^`]+)`), because \w"
@@ -70,17 +70,18 @@ def plain(text):
 
 def of_functions(path):
     """What the functions of a source whose text is kept take and require, and what each of their clauses ensures."""
-    home, crate = f"../{path.relative_to(needs.ROOT)}", path.relative_to(needs.ROOT).parts[1]
-    traits = {*re.findall(r"^pub trait (\w+)", path.read_text(), re.M)}
-    for owner, name, takes, clauses in proved.functions(path):
-        call = f"{owner}::{name}".removeprefix("::")
-        if owner in traits or home in (proved.FILES.get(call), *EXAMPLES):
-            asked = [
+    crate, traits = path.relative_to(needs.ROOT).parts[1], re.findall(
+        r"^pub trait (\w+)", path.read_text(), re.M
+    )
+    is_example = str(path.relative_to(needs.ROOT)) in EXAMPLES
+    for call, takes, clauses in sources.functions(path):
+        if is_example or call.partition("::")[0] in traits or sources.LINKED.get(call) == path:
+            asked = (
                 f"requires {it} {{{text}}}" for kind, it, text in clauses if kind == "requires"
-            ]
+            )
             yield f"{crate} {call}", " ".join([takes, *asked])
-            ensured = (it[1:] for it in clauses if it[0] == "ensures")
-            yield from ((f"{crate} {call} {clause}".rstrip(), text) for clause, text in ensured)
+            for name, text in (it[1:] for it in clauses if it[0] == "ensures"):
+                yield f"{crate} {call} {name}".rstrip(), text
 
 
 def of_traits(crate, text):

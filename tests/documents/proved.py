@@ -5,39 +5,20 @@ lists with those that the kit names in the log of the program, which `make` leav
 import functools
 import re
 
-import definitions
 import needs
 import pytest
+import sources
 
-PAGE = needs.ROOT / "docs/PROVED.md"
 LOG = needs.ROOT / "crates/fhpgas/out/build.log"
 PROMISES = ("## The promises", "## What only tests show")
-TEXT = PAGE.read_text()
-FILES = dict(re.findall(r"^\[([\w:]+)\]: (\S+)$", TEXT, re.M))
-HEAD = re.compile(
-    r"^(?:impl(?:<.*?>)? (?:[\w<>, ]+ for )?|pub trait )(\w+)|^\}"
-    r'|^( *)(?:pub(?:\([^)]*\))? )?(?:extern "C" )?fn (\w+)',
-    re.M,
-)
+TEXT = sources.PROVED.read_text()
 CITED = re.compile(r"\[(`\w+`(?:,\s+`\w+`)*)\]\[([\w:]+)\]")
-
-
-def functions(path):
-    """The functions of a source: each with its type or trait, or "", its head up to the contract, and its clauses."""
-    text, owner = re.sub(r"//[^\n]*", "", path.read_text()), ""
-    for head in HEAD.finditer(text):
-        if head[3]:
-            clauses = list(definitions.contract(text, head.end()))
-            takes = re.match(r".*?(?=\s(?:requires|ensures)\b|\s\{|;$)", text[head.end() :], re.S | re.M)
-            yield owner if head[2] else "", head[3], takes[0], clauses
-        else:
-            owner = head[1] or ""
 
 
 @functools.cache
 def clauses(path):
     """The names of the clauses of each function of a source."""
-    return {(owner, name): {it[1] for it in has} for owner, name, _, has in functions(path)}
+    return {call: {name for _, name, _ in has} for call, _, has in sources.functions(path)}
 
 
 def assumed(log):
@@ -58,8 +39,7 @@ def test_c_functions():
 
 @pytest.mark.parametrize("names, call", CITED.findall(TEXT))
 def test_clauses(names, call):
-    owner, _, function = call.rpartition("::")
-    has = clauses(PAGE.parent / FILES[call]).get((owner, function), set())
+    has = clauses(sources.LINKED[call]).get(call, set())
     assert {*re.findall(r"\w+", names)} <= has
 
 
