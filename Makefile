@@ -7,7 +7,7 @@
 #   make test             sets up what is missing (SETUP=no: nothing), proves all from scratch, and runs every test
 #   make install          puts what is built into PREFIX (/usr/local): the program, and the header and the library for C; make uninstall removes it
 #   make page             bundles page/src, and the kernel by plain Rust, into page/fhpgas.html, by esbuild
-#   make definitions      writes the definitions that all promises rest on to out/DEFINITIONS.md
+#   make definitions      writes the definitions that all promises rest on to out/DEFINITIONS.md (FOR=run: prints those of the contract of run)
 #   make plain            builds fhpgas and the library for C by plain Rust, without the kit and not proved, into out/plain
 #   make crate            makes the crate fhpgas, for programs in Rust, into out/crate
 #   make wheel            packs the Python package into out/, with program and engine for Linux, and without them for other systems
@@ -24,7 +24,7 @@ unexport MAKEFLAGS MFLAGS
 .PHONY: quick package test page definitions install uninstall clean help
 quick package test: ; @tests/all.sh $@
 page: ; @node page/build.mjs
-definitions: ; @mkdir -p out && tests/documents/definitions.py out/DEFINITIONS.md
+definitions: ; @mkdir -p out && tests/documents/definitions.py $(if $(FOR),/dev/stdout,out/DEFINITIONS.md) $(FOR)
 PREFIX ?= /usr/local
 install: ; @tools/install.sh "$(PREFIX)"
 uninstall: ; @tools/install.sh "$(PREFIX)" remove

@@ -1,6 +1,7 @@
 #!/usr/bin/env python3
 """Says which definitions a reader of the public contracts must believe. As a script it writes them to
-the file that is named, the page DEFINITIONS.md, by `make definitions`.
+the file that is named, the page DEFINITIONS.md, by `make definitions`, or with calls that
+docs/PROVED.md links those below these alone, by `make definitions FOR=run`.
 
 A definition is an item of a crate's specs/. It must be believed if the contract of a public call
 names it, or another that must be believed does. A reader also meets the code's types that these
@@ -13,7 +14,6 @@ import pathlib
 import re
 import sys
 import textwrap
-import unittest
 
 sys.path.append(f"{sys.path[0]}/../lib")
 import antt
@@ -23,11 +23,6 @@ import sources
 CRATES = needs.ROOT / "crates"
 INNER = "-- Inner words"
 FIRST = "gas_geom", "Fhp1"  # the file that a reader sees first: it says what a collision is
-ANSWER = [("gas_tool", "Program", name) for name in ("Ends", "exit_status")]
-SAID = {  # of the lines for answer
-    "docs/PROVED.md": "{} lines of ours",
-    "README.md": "{} lines of [definitions]",
-}
 USE_OF_TYPE = re.compile(
     r"(?m)^\s*use Rattle\.(\w+)\.specs\.declared\.[\w.]*?(\w+)(?:\.TheVariants)?(?:\.\{([^}]*)\}| as (\w+))"
 )
@@ -59,6 +54,14 @@ KIT_ADDS = """
 They say what `clap`'s arguments ask for, what a TOML document is, and the block function of the key stream, which a test compares with
 published vectors. The kit's `CRATE/specs` has them. In `{}` the definitions above reach {:,} lines, comments and Rattle's own words left
 out:
+"""
+HEAD_FOR = """\
+# Definitions for {}
+
+{} lines of ours, in an order to be read, and {} of the kit's, comments left out. Numbers are whole numbers without bound.
+"""
+GASES = """\
+The tables of the three gases are in `Fhp1`, `FhpRest` and `Hpp` of `gas_geom/specs`.
 """
 
 
@@ -149,7 +152,7 @@ def reading_order(believed):
     cites = {key[:2]: set() for key in sorted(believed)}
     for key, definition in believed.items():
         cites[key[:2]] |= {used[:2] for used in definition.uses} - {key[:2]}
-    order = [FIRST]
+    order = [FIRST] * (FIRST in cites)
     for crate in crates:
         waiting = [file for file in cites if file[0] == crate and file != FIRST]
         while waiting:
@@ -172,8 +175,8 @@ def lines_of(definitions):
     return sum(definition.lines() for definition in set(definitions))
 
 
-def of_the_kit(reached, letter):
-    yield KIT_ADDS.format(letter, lines_of(reached.values()))
+def of_the_kit(reached):
+    """The names of the kit's definitions, file by file, with their lines."""
     for crate in sorted({key[0] for key in reached}):
         here = {key: it for key, it in sorted(reached.items()) if key[0] == crate}
         files = {file: [key[2] for key in here if key[1] == file] for _, file, _ in here}
@@ -209,7 +212,7 @@ def contracts_of(public, limits):
 
 class Read:
     """What the sources have: `public` texts by their crates, the `known` definitions without proofs,
-    those to be `believed`, the code's own and `of_kit`, and the kit's `letter`."""
+    those to be `believed`, the code's own and `of_kit`, and the kit's `letter`, None without it."""
 
     def __init__(self):
         self.public = {it.name: list(public_texts(it.name)) for it in sorted(CRATES.iterdir())}
@@ -221,30 +224,28 @@ class Read:
         self.known = {key: it for key, it in definitions.known.items() if not proofs(key[1])}
         self.limits = constants()
         self.cited, self.members, self.wrong = contracts_of(self.public, self.limits)
-        reached = definitions.reached(self.cited)
-        self.believed = {key: it for key, it in reached.items() if is_own(key[0])}
-        self.of_kit = {key: it for key, it in reached.items() if not is_own(key[0])}
-        answer = definitions.reached(ANSWER)
-        self.own_lines = lines_of(it for key, it in answer.items() if is_own(key[0]))
+        self.definitions = definitions
+        self.believed, self.of_kit = self.below(self.cited)
+
+    def below(self, cited):
+        """The definitions that these rest on, the code's own and the kit's."""
+        reached = self.definitions.reached(cited)
+        own = {key: it for key, it in reached.items() if is_own(key[0])}
+        return own, {key: it for key, it in reached.items() if key not in own}
+
+    def below_calls(self, calls):
+        """Those that the contracts of functions that docs/PROVED.md links rest on."""
+        cited = set()
+        for path, call in ((sources.LINKED[call], call) for call in calls):
+            contracts_here = (clauses for it, _, clauses in sources.functions(path) if it == call)
+            words = {it for has in contracts_here for *_, text in has for it in antt.words_in(text)}
+            cited |= {key for name, key in antt.brought(path.read_text()).items() if name in words}
+        return self.below(cited)
 
 
 @functools.cache
 def read():
     return Read()
-
-
-def test_lines_for_answer():
-    for name, words in SAID.items():
-        text = " ".join((needs.ROOT / name).read_text().split())
-        assert f" {words.format(read().own_lines)}" in text
-
-
-def test_lines_of_the_kit():
-    if not read().letter:
-        raise unittest.SkipTest("rt is missing")
-    for name in SAID:
-        text = " ".join((needs.ROOT / name).read_text().split())
-        assert f" {lines_of(read().of_kit.values()):,} of the kit's" in text
 
 
 def test_inner_words():
@@ -271,13 +272,27 @@ def test_what_is_cited_is_defined():
 
 
 def page():
-    believed = read().believed
+    believed, letter = read().believed, read().letter
     yield HEAD_OF_PAGE
     yield from of_the_code({*types_of(believed)}, read().members)
     for file in reading_order(believed):
         yield from shown(*file, believed)
-    yield from of_the_kit(read().of_kit, read().letter) if read().letter else ()
+    if letter:
+        yield KIT_ADDS.format(letter, lines_of(read().of_kit.values()))
+        yield from of_the_kit(read().of_kit)
+
+
+def page_for(calls):
+    own, of_kit = read().below_calls(calls)
+    lines = HEAD_FOR.format(" and ".join(calls), *map(lines_of, (own.values(), of_kit.values())))
+    yield lines + ("" if FIRST in own else GASES)
+    for file in reading_order(own):
+        yield from shown(*file, own)
+    if of_kit:
+        yield "\n## The kit's\n"
+        yield from of_the_kit(of_kit)
 
 
 if __name__ == "__main__":
-    pathlib.Path(sys.argv[1]).write_text("\n".join(page()) + "\n")
+    file, *calls = sys.argv[1:]
+    pathlib.Path(file).write_text("\n".join(page_for(calls) if calls else page()) + "\n")

@@ -1,10 +1,12 @@
 """Compares docs/PROVED.md with the sources: each item of its promises names clauses, and the linked
-file has a function of that name with these clauses. It also compares the C functions that the page
+file has a function of that name with these clauses. Its table and README count the lines of
+definitions that contracts rest on. It also compares the C functions that the page
 lists with those that the kit names in the log of the program, which `make` leaves."""
 
 import functools
 import re
 
+import definitions
 import needs
 import pytest
 import sources
@@ -12,6 +14,12 @@ import sources
 LOG = needs.ROOT / "crates/fhpgas/out/build.log"
 PROMISES = ("## The promises", "## What only tests show")
 TEXT = sources.PROVED.read_text()
+LADDER = re.compile(r"^\| (.*?) +\| +([\d,]+) \| +([\d,]+) \|$", re.M)
+SAID = [  # of these in README
+    (("answer", "Fault::status"), "These are {} lines of [definitions]"),
+    (("answer", "Fault::status"), "and {1} of the kit's"),
+    (("run",), "rests on {} lines"),
+]
 CITED = re.compile(r"\[(`\w+`(?:,\s+`\w+`)*)\]\[([\w:]+)\]")
 
 
@@ -35,6 +43,31 @@ def assumed(log):
 )
 def test_c_functions():
     assert assumed(LOG.read_text(errors="replace")) in " ".join(TEXT.split())
+
+
+def number_of_lines(calls):
+    """The lines of definitions that these rest on, of ours and of the kit's; all if there is no call."""
+    read = definitions.read()
+    parts = read.below_calls(calls) if calls else (read.believed, read.of_kit)
+    return [f"{definitions.lines_of(part.values()):,}" for part in parts]
+
+
+@pytest.mark.parametrize("what, ours, kits", LADDER.findall(TEXT))
+def test_ladder(what, ours, kits):
+    own, of_kit = number_of_lines(re.findall(r"\[([\w:]+)\]", what))
+    assert own == ours
+    assert of_kit == kits if definitions.read().letter else pytest.skip("rt is missing")
+
+
+@pytest.mark.parametrize("calls, said", SAID)
+def test_readme(calls, said):
+    read = definitions.read()
+    text = " ".join((needs.ROOT / "README.md").read_text().split())
+    assert (
+        said.format(*number_of_lines(calls)) in text
+        if read.letter
+        else pytest.skip("rt is missing")
+    )
 
 
 @pytest.mark.parametrize("names, call", CITED.findall(TEXT))
