@@ -1,9 +1,11 @@
 """Compares the built program's answer to large texts of many kinds, under a small stack, with
-docs/FORMATS.md. Then the largest area, if memory allows. --mebibytes M makes larger texts. The
-program reads at most 64."""
+docs/FORMATS.md. Then the largest area, and requests of many passes, turns and blocks, whose answers
+are known. If memory is there, none may be refused. --mebibytes M makes larger texts. The program
+reads at most 64."""
 
 import itertools
 import random
+import resource
 import signal
 import subprocess
 
@@ -14,10 +16,11 @@ pytestmark = pytest.mark.alone
 STACK = 256  # KiB
 BLOCK = 1 << 16
 SIDE, MOST_SIDE = 4096, 65536
-LARGEST = "the largest area"
+LARGEST, LARGEST_MAP = "the largest area", "the largest map"
 # What Rust's reader of TOML calls itself for, once more at each level, as the proved program's does not: plain/README.md says so.
 TOO_DEEP = "nested arrays", "nested inline tables", "nested arrays that never end", "one dotted key"
 OVERFLOW = f"status {-signal.SIGSEGV}: "
+FULL = 'version = 2\ngas = "fhp1"\nwidth = %d\nheight = %d\nrate = 1000\n'  # and it stays full
 AREA = f'gas = "fhp1"\nwidth = {SIDE}\nheight = {SIDE}\n'
 SHOWN = f"gas fhp1 width {SIDE} height {SIDE} solid %d particles %d"
 WRONG_TYPE, UNKNOWN, SYNTAX, RANGE, MISSING = (
@@ -61,10 +64,9 @@ def maps(size):
     text = ['gas = "fhp1"\ncells = [\n'] + ['"' + "3f" * SIDE + '",\n'] * rows + ["]\n"]
     yield "a map", text, f"gas fhp1 width {SIDE} height {rows} solid 0 particles {6 * SIDE * rows}"
     wide = '"' + "##" * 65535 + '01",\n'
-    rows = max(size // len(wide), 1)
-    text = ['version = 2\ngas = "fhp1"\ncells = [\n'] + [wide] * rows + ["]\n"]
-    shown = f"gas fhp1 width 65536 height {rows} solid {65535 * rows} particles {rows}"
-    yield "a map of the widest rows", text, shown
+    for name, rows in ("a map of the widest rows", max(size // len(wide), 1)), (LARGEST_MAP, 511):
+        text = ['version = 2\ngas = "fhp1"\ncells = [\n'] + [wide] * rows + ["]\n"]
+        yield name, text, f"gas fhp1 width 65536 height {rows} solid {65535 * rows} particles {rows}"
     yield "empty arrays", repeated(AREA + "solid = [", "[],", "]\n", size), WRONG_TYPE
     yield "empty rows", repeated('gas = "fhp1"\ncells = [', '"",', "]\n", size), RANGE
 
@@ -102,6 +104,8 @@ def texts(size):
     yield from itertools.chain(areas(size), maps(size), documents(size))
     side = MOST_SIDE
     area = f'version = 2\ngas = "hpp"\nwidth = {side}\nheight = {side}\n'
+    filled = "gas fhp1 width 5011 height 5003 solid 0 particles 150420198"
+    yield "a large area that is filled", [FULL % (5011, 5003)], filled
     yield LARGEST, [area], f"gas hpp width {side} height {side} solid 0 particles 0"
 
 
@@ -126,3 +130,38 @@ def test_text(program, memory, pytestconfig, tmp_path, name):
     if name in TOO_DEEP and b"not proved" in needs.printed([program, "--version"]):
         expected = OVERFLOW
     assert answer(program, file.name) == expected
+
+
+def passes():
+    """A lone particle moves a cell per generation, and each pass of one worker makes one."""
+    area = 'gas = "hpp"\nwidth = 7\nheight = 1\nparticles = [[0, 0, 1]]\n'
+    moved = f"generation 600001 particles 1\n{'..' * (600_001 % 7)}01{'..' * (6 - 600_001 % 7)}\n"
+    return "run --generations 600001 --stages 1", area, moved
+
+
+def turns():
+    """A member makes at most one event in a turn, and each of the two has two events per row."""
+    rows, words = 40_000, "replay --generations 1 --stages 1" + " 0 1" * 100_000
+    belts = "".join(f"belt {belt} put {rows} taken {rows}\n" for belt in range(2))
+    cells = f"generation 1 particles {6 * rows}\n" + "3f\n" * rows
+    return words, FULL % (1, rows), f"done\n{belts}{cells}"
+
+
+def blocks():
+    """All 2,102,491 blocks of a cell are alike."""
+    columns = [f"{x:5} " for x in range(1453)]
+    rows = (f"{y:5} {1:8} {6:9} {0:10} {0:10}\n" for y in range(1447))
+    lines = "".join(column + row for row in rows for column in columns)
+    head = "  col   row    fluid particles         px         py\n"
+    words = "coarse --generations 2 --block-width 1 --block-height 1"
+    return words, FULL % (1453, 1447), head + lines
+
+
+@pytest.mark.parametrize("large", [passes, turns, blocks])
+def test_request(program, memory, large):
+    memory(2)
+    words, scene, expected = large()
+    room = lambda: resource.setrlimit(resource.RLIMIT_STACK, (1 << 26, 1 << 26))  # for words
+    ours = needs.printed([program, *words.split()], scene.encode(), preexec_fn=room)
+    is_so = ours == expected.encode()
+    assert is_so  # and pytest shows no difference of so many lines
