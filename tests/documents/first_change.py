@@ -1,6 +1,7 @@
 """Makes the first change of CONTRIBUTING in a copy. docs/first_change.diff must fit and have the
 contract that the page quotes. Its crate must be proved, and its wrong body refused, like the body that
-the page begins with. The page of definitions must have the new one, and no count of a document change."""
+the page begins with. The page of definitions must have the new one, no count of a document change, and
+the new definition be one whose text is kept."""
 
 import re
 import subprocess
@@ -13,7 +14,16 @@ pytestmark = pytest.mark.alone
 DIFF = needs.ROOT / "docs/first_change.diff"
 PAGE = (needs.ROOT / "CONTRIBUTING.md").read_text()
 QUOTED = [it.strip() for it in re.search(r"\n( */// .*?\n *})\n", PAGE, re.S)[1].split("\n")]
-PACKED = "crates", "crates.txt", "CONTRIBUTING.md", "README.md", "docs", "tests", "pyproject.toml"
+PACKED = (
+    "crates",
+    "crates.txt",
+    "CONTRIBUTING.md",
+    "CHANGELOG.md",
+    "README.md",
+    "docs",
+    "tests",
+    "pyproject.toml",
+)
 
 
 def run(room, *words):
@@ -71,5 +81,8 @@ def test_page_of_definitions_has_its_definition(changed):
 
 
 def test_no_count_of_a_document_changes(changed):
-    ran = run(changed, sys.executable, "-m", "pytest", "-q", "tests/documents/definitions.py")
+    assert run(changed, "tests/documents/promises.py", "--write").returncode == 0
+    assert "gas_geom Size.cells:" in (changed / "tests/documents/promises.txt").read_text()
+    files = [f"tests/documents/{name}.py" for name in ("definitions", "proved", "promises")]
+    ran = run(changed, sys.executable, "-m", "pytest", "-q", "-k", "not c_functions", *files)
     assert ran.returncode == 0, ran.stdout

@@ -45,9 +45,8 @@ def test_c_functions():
 
 
 def number_of_lines(calls):
-    """The lines of definitions that these rest on, of ours and of the kit's; all if there is no call."""
-    read = definitions.read()
-    parts = read.below_calls(calls) if calls else (read.believed, read.of_kit)
+    """The lines of definitions that these rest on, of ours and of the kit's."""
+    parts = definitions.read().below_calls(calls)
     return [f"{definitions.lines_of(part.values()):,}" for part in parts]
 
 
