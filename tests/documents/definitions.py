@@ -236,10 +236,10 @@ class Read:
     def below_calls(self, calls):
         """Those that the contracts of functions that docs/PROVED.md links rest on."""
         cited = set()
-        for path, call in ((sources.LINKED[call], call) for call in calls):
-            contracts_here = (clauses for it, _, clauses in sources.functions(path) if it == call)
-            words = {it for has in contracts_here for *_, text in has for it in antt.words_in(text)}
-            cited |= {key for name, key in antt.brought(path.read_text()).items() if name in words}
+        for text, call in ((sources.LINKED[call].read_text(), call) for call in calls):
+            clauses = (it.clauses for it in sources.functions(text) if it.call == call)
+            words = {it for has in clauses for *_, clause in has for it in antt.words_in(clause)}
+            cited |= {key for name, key in antt.brought(text).items() if name in words}
         return self.below(cited)
 
 

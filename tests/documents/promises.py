@@ -18,7 +18,6 @@ import textwrap
 sys.path.append(f"{sys.path[0]}/../lib")
 import definitions
 import needs
-import pytest
 import sources
 
 KEPT = needs.ROOT / "tests/documents/promises.txt"
@@ -70,18 +69,15 @@ def plain(text):
 
 def of_functions(path):
     """What the functions of a source whose text is kept take and require, and what each of their clauses ensures."""
-    crate, traits = path.relative_to(needs.ROOT).parts[1], re.findall(
-        r"^pub trait (\w+)", path.read_text(), re.M
-    )
+    text, crate = path.read_text(), path.relative_to(needs.ROOT).parts[1]
+    traits = re.findall(r"^pub trait (\w+)", text, re.M)
     is_example = str(path.relative_to(needs.ROOT)) in EXAMPLES
-    for call, takes, clauses in sources.functions(path):
+    for call, takes, clauses, _ in sources.functions(text):
         if is_example or call.partition("::")[0] in traits or sources.LINKED.get(call) == path:
-            asked = (
-                f"requires {it} {{{text}}}" for kind, it, text in clauses if kind == "requires"
-            )
+            asked = (f"requires {it} {{{of}}}" for kind, it, of in clauses if kind == "requires")
             yield f"{crate} {call}", " ".join([takes, *asked])
-            for name, text in (it[1:] for it in clauses if it[0] == "ensures"):
-                yield f"{crate} {call} {name}".rstrip(), text
+            for name, of in (it[1:] for it in clauses if it[0] == "ensures"):
+                yield f"{crate} {call} {name}".rstrip(), of
 
 
 def of_traits(crate, text):
@@ -163,11 +159,12 @@ def unnamed(old, new, changes):
             yield item(place, wanted, found)
 
 
-@pytest.mark.parametrize("says, new, asked", CASES)
-def test_what_is_asked(says, new, asked):
-    newest = f"## 2, unreleased\n\n- Faster.\n\n### Promises\n\n{says}\n"
-    text = f"# Changes\n\n{newest}\n## 1\n\n### Promises\n\n- `0` became `n` in `gas law kept`, because it was.\n"
-    assert [*unnamed(kept(OLD), kept(new), named(text))] == asked
+def test_what_is_asked():
+    for says, new, asked in CASES:
+        newest = f"## 2, unreleased\n\n- Faster.\n\n### Promises\n\n{says}\n"
+        older = "## 1\n\n### Promises\n\n- `0` became `n` in `gas law kept`, because it was.\n"
+        changes = named(f"# Changes\n\n{newest}\n{older}")
+        assert [*unnamed(kept(OLD), kept(new), changes)] == asked, says
 
 
 def test_no_text_goes_or_changes_without_a_name():

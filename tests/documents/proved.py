@@ -26,7 +26,8 @@ CITED = re.compile(r"\[(`\w+`(?:,\s+`\w+`)*)\]\[([\w:]+)\]")
 @functools.cache
 def clauses(path):
     """The names of the clauses of each function of a source."""
-    return {call: {name for _, name, _ in has} for call, _, has in sources.functions(path)}
+    found = sources.functions(path.read_text())
+    return {it.call: {name for _, name, _ in it.clauses} for it in found}
 
 
 def assumed(log):

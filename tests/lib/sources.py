@@ -1,6 +1,7 @@
 """The functions in the sources with their contracts, and those that docs/PROVED.md links."""
 
 import re
+import typing
 
 import needs
 
@@ -33,12 +34,23 @@ def contract(text, place):
         yield found[1], found[2] or "", clause
 
 
-def functions(path):
-    """The functions of a source: each as docs/PROVED.md calls it, with what it takes and returns, and its clauses."""
-    text, owner = re.sub(r"//[^\n]*", "", path.read_text()), ""
-    for head in HEAD.finditer(text):
+class Function(typing.NamedTuple):
+    """A function as docs/PROVED.md calls it: what it takes and returns, its clauses as `contract` has them, and its text."""
+
+    call: str
+    takes: str
+    clauses: list
+    text: str
+
+
+def functions(text):
+    """The functions of a source."""
+    text, owner = re.sub(r"//[^\n]*", "", text), ""
+    heads = [*HEAD.finditer(text)]
+    for head, end in zip(heads, [it.start() for it in heads[1:]] + [len(text)]):
         if head[3]:
             call = f"{owner}::{head[3]}" if head[2] and owner else head[3]
-            yield call, TAKES.match(text, head.end())[0], list(contract(text, head.end()))
+            takes, clauses = TAKES.match(text, head.end())[0], [*contract(text, head.end())]
+            yield Function(call, takes, clauses, text[head.start() : end])
         else:
             owner = head[1] or ""
