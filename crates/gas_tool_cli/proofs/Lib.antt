@@ -1,2 +1,3 @@
 pub mod ErrorKinds
+pub mod OneRequest
 pub mod Values

@@ -3,5 +3,6 @@
 
 mod command;
 mod help;
+pub mod laws;
 mod matches;
 pub mod words;
