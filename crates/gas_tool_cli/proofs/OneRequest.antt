@@ -1,5 +1,5 @@
 -- Words ask for at most one request.
-use Rattle.std.proofs.Common.{[], ◌∷◌, ◌≡◌, ◌≢◌, ◌∙◌, ℕ, List, Option, Some, None, ap, ap₂, refl, sym, map, arith}
+use Rattle.std.proofs.Common.{rules, nat_eq, false, [], ◌∷◌, ◌≡◌, ◌≢◌, ◌∙◌, ℕ, List, Option, Some, None, ap, ap₂, refl, sym, map, arith}
 use Rattle.std.specs.Prelude.{Ok, Err, IsSomeAnd, codes, slice_index_or, unwrap_or}
 use Rattle.std.specs.List.{AllZip}
 use Rattle.std.specs.String.{string_bytes}
@@ -87,10 +87,17 @@ same_request sub (Replay s c g t) (Replay s' c' g' t') a b =
     let turns : t ≡ t' = same_turns (unwrap_or (all_of (codes "turns") sub.1) []) t t' a.2 b.2 in
     cc
 
-same_entered : (sub : Option (Text × List Row)) (a b : Request) → IsRequestOf sub a → IsRequestOf sub b → a ≡ b
-same_entered None a b is_a is_b = absurd is_a
-same_entered (Some sub) a b is_a is_b = same_request sub a b is_a is_b
+pub one_entered : (sub : Option (Text × List Row)) (a b : Request) → IsRequestOf sub a → IsRequestOf sub b → a ≡ b
+one_entered None a b is_a is_b = absurd is_a
+one_entered (Some sub) a b is_a is_b = same_request sub a b is_a is_b
 
 pub one_asked : (words : Words) (a b : Request) → AskFor words a → AskFor words b → a ≡ b
-one_asked (Ok all) a b is_a is_b = same_entered (subcommand_of program_app (map string_bytes (into_iter_items all))) a b is_a is_b
+one_asked (Ok all) a b is_a is_b = one_entered (subcommand_of program_app (map string_bytes (into_iter_items all))) a b is_a is_b
 one_asked (Err error) a b is_a is_b = absurd is_a
+
+-- what asks for a request asks for no other
+pub not_asked : (sub : Option (Text × List Row)) (a b : Request) → IsRequestOf sub a → (a ≡ b → ⊥) → IsRequestOf sub b → ⊥
+not_asked sub a b is_a differ is_b = differ (one_entered sub a b is_a is_b)
+
+pub apart : (m n : ℕ) → nat_eq m n ≡ false → m ≡ n → ⊥
+apart m n unequal same = search rules

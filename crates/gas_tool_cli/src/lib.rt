@@ -2,6 +2,7 @@
 #![tactic(auto)]
 
 mod command;
+pub mod examples;
 mod help;
 pub mod laws;
 mod matches;

@@ -1,0 +1,42 @@
+use Rattle.std.proofs.Common.{[], ◌∷◌, ◌≡◌, List, Option, Some, refl, arith, rules}
+use Rattle.std.specs.Prelude.{codes}
+use Rattle.clap.specs.Words.{Row, Text, subcommand_of}
+use Rattle.clap.proofs.OnLiterals.{clap_on_literals}
+use Rattle.gas_tool_cli.specs.Words.{program_app}
+use Rattle.gas_tool_cli.specs.Requests.{IsRequestOf}
+use Rattle.gas_tool_cli.specs.declared.words.Request.{Request}
+use Rattle.gas_tool_cli.specs.declared.words.Request.TheVariants.{Run}
+use Rattle.gas_tool_cli.proofs.OneRequest.{apart, not_asked}
+use Rattle.gas_tool_cli.proofs.examples.words_of_a_run.Goals as goal
+
+abbrev entered : Option (Text × List Row)
+entered = subcommand_of program_app (codes "fhpgas" ∷ codes "run" ∷ codes "--generations" ∷ codes "3" ∷ codes "--stages" ∷ codes "5" ∷ codes "--capacity" ∷ codes "7" ∷ codes "--threads" ∷ codes "2" ∷ [])
+
+asked : IsRequestOf entered (Run 5 7 3 (Some 2))
+unfolding clap_on_literals
+asked = (
+  refl,
+  ((search rules, omega arith), refl),
+  record {
+    stages_at = (Some 5, ((search rules, omega arith), refl), refl);
+    capacity_at = (Some 7, ((search rules, omega arith), refl), refl);
+    generations_at = ((search rules, omega arith), refl);
+  },
+)
+
+pub returns-clause-asked : goal.returns-clause-asked
+returns-clause-asked c = asked
+
+other : (r : Request) → (Run 5 7 3 (Some 2) ≡ r → ⊥) → IsRequestOf entered r → ⊥
+other r = not_asked entered (Run 5 7 3 (Some 2)) r asked
+
+pub returns-clause-not_asked : goal.returns-clause-not_asked
+returns-clause-not_asked c = (
+  other _ (λ e. apart 5 3 refl cc),
+  other _ (λ e. apart 7 128 refl cc),
+  other _ (λ e. apart 3 5 refl cc),
+  other _ (λ e. apart 2 5 refl cc),
+  other _ (λ e. absurd cc),
+  other _ (λ e. absurd cc),
+  other _ (λ e. absurd cc),
+)

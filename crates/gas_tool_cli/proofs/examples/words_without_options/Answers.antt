@@ -1,0 +1,40 @@
+use Rattle.std.proofs.Common.{[], ◌∷◌, ◌≡◌, List, Option, None, refl, arith, rules}
+use Rattle.std.specs.Prelude.{codes}
+use Rattle.clap.specs.Words.{Row, Text, subcommand_of}
+use Rattle.clap.proofs.OnLiterals.{clap_on_literals}
+use Rattle.gas_tool_cli.specs.Words.{program_app}
+use Rattle.gas_tool_cli.specs.Requests.{IsRequestOf}
+use Rattle.gas_tool_cli.specs.declared.words.Request.{Request}
+use Rattle.gas_tool_cli.specs.declared.words.Request.TheVariants.{Run}
+use Rattle.gas_tool_cli.proofs.OneRequest.{apart, not_asked}
+use Rattle.gas_tool_cli.proofs.examples.words_without_options.Goals as goal
+
+abbrev entered : Option (Text × List Row)
+entered = subcommand_of program_app (codes "fhpgas" ∷ codes "run" ∷ codes "--generations" ∷ codes "13" ∷ [])
+
+asked : IsRequestOf entered (Run 4 2 13 None)
+unfolding clap_on_literals
+asked = (
+  refl,
+  refl,
+  record {
+    stages_at = (None, refl, refl);
+    capacity_at = (None, refl, refl);
+    generations_at = ((search rules, omega arith), refl);
+  },
+)
+
+pub returns-clause-asked : goal.returns-clause-asked
+returns-clause-asked c = asked
+
+other : (r : Request) → (Run 4 2 13 None ≡ r → ⊥) → IsRequestOf entered r → ⊥
+other r = not_asked entered (Run 4 2 13 None) r asked
+
+pub returns-clause-not_asked : goal.returns-clause-not_asked
+returns-clause-not_asked c = (
+  other _ (λ e. absurd cc),
+  other _ (λ e. apart 4 5 refl cc),
+  other _ (λ e. apart 2 3 refl cc),
+  other _ (λ e. apart 13 19 refl cc),
+  other _ (λ e. absurd cc),
+)
