@@ -7,7 +7,6 @@ import { RENAMED } from "./presets.js";
 import { $, chosen, element, head, look, marks, preset, shown } from "./state.js";
 
 export const OPENED = "opened"; // the address of a scene that was opened, which no address has
-const DRIVE = "2"; // the number of the force that keeps the wind: another one makes other cells
 const LOW = 480; // pixels of a phone on its side
 const HELLO = "HELLO"; // the message of a start that has none
 const MOST_RUNS = 8000; // letters of what was drawn
@@ -31,10 +30,13 @@ export function setControl(id, value) {
   return isSet;
 }
 
+/** The number of what makes the cells of a start: with the force that keeps the wind, or with grains, they changed. */
+const drive = () => (hasGrains() ? "3" : "2");
+const hasGrains = () => preset().shapes[0] === "porous";
 export const hasText = () => preset().shapes[0] === "text";
 
 export function stateText() {
-  const state = new URLSearchParams({ scene: chosen.preset, field: chosen.field, drive: DRIVE });
+  const state = new URLSearchParams({ scene: chosen.preset, field: chosen.field, drive: drive() });
   for (const id of CONTROLS) state.set(id, valueOf(id));
   if (hasText()) state.set("text", sealed(chosen.text));
   const rounded = (values) => values.map((value) => Number(value.toFixed(2))).join(" ");
@@ -82,7 +84,7 @@ export function applyState(text) {
   const [width, height] = sizes(), isDrawn = isLengths(lengths, 64 * Math.ceil(width / 64) * height);
   if (!isDrawn) refused.push(`runs=${lengths.slice(0, 20)}`);
   if (hasText() && !takeText(state)) refused.push(`text=${state.get("text")}`);
-  const isOlder = text !== "" && state.get("drive") !== DRIVE && $("keep").checked;
+  const isOlder = text !== "" && state.get("drive") !== drive() && ($("keep").checked || hasGrains());
   return { isOlder, hasLength: state.has("length"), at: numbers("at"), probe: numbers("probe"), lengths: isDrawn ? lengths : "", refused };
 }
 

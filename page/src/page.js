@@ -63,7 +63,7 @@ function begin() {
   const { isOlder, hasLength, lengths, ...pending } = applyState(location.hash.slice(1));
   Object.assign(asked, pending);
   start(hasLength, lengths);
-  if (isOlder) note("This link is older than the even force that keeps the wind now: its cells were other ones.", "", 9);
+  if (isOlder) note("This link is older than the force that keeps the wind now, or than these grains: its cells were other ones.", "", 9);
   if (location.hash === `#${OPENED}`) note("The scene of this address was opened from a file. No address has its cells: open it again.", "bad");
 }
 

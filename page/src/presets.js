@@ -23,7 +23,7 @@ const OTHERS = {
     look: "Through the gap the gas is fastest. Draw a wall into it (d)." },
   "porous medium": { ...SMALL, shapes: ["porous"], radius: 8, wind: 0.04, fill: 0.3, field: "speed",
     length: "a grain's diameter", numbers: ["drag", "u"],
-    look: "The gas finds few fast ways. Force over speed hardly changes with the wind (w): Darcy's law." },
+    look: "Up to a wind of 0.1 (w) force over speed hardly changes: Darcy's law. Faster, it grows." },
   "empty channel": { shapes: ["none"], length: "", field: "speed",
     look: "The walls hold the gas back: the speed becomes a parabola, in the middle 1.5 of its mean." },
   "noise at one cell": { smooth: 0, span: 0, field: "speed", numbers: ["noise", "u"],

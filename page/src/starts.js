@@ -14,11 +14,12 @@ const SOLIDS = {
   discs: (W, T, R) => (x, y) => (x - W / 5) ** 2 + (Math.abs(y - T / 2) - 1.7 * R) ** 2 <= R * R,
 };
 const PARTICLES = { pair: 0x09, triple: 0x15 };
+const GRAINS = 0.15;
 const DISSOLVED = 3000; // generations after which a text is noise
 
-/** Puts grains of a radius anywhere until three tenths are solid. */
+/** Puts grains of a radius anywhere until a part of the cells is solid: of twice as many some leave one throat. */
 function putGrains({ drive, cells }, states, tall, radius) {
-  for (let solid = 0; solid < 0.3 * states.length; ) {
+  for (let solid = 0; solid < GRAINS * states.length; ) {
     /** @type {Place} */
     const middle = [drive.draw() * cells.width, drive.draw() * tall];
     for (const at of cells.near(middle, middle, radius)) {
