@@ -11,7 +11,7 @@ export class Flow {
   direction = 1; // -1 on the way back
   changes = 0; // counts what happens to the cells
   isDisturbed = false; // something was changed that the way back does not undo
-  isMessage = false; // a particle that is flipped is not flipped back
+  isMessage = false; // nothing that is done to its cells is undone on the way back
   late = new Set(); // strokes on the way back
   found = /** @type {number | null} */ (null); // cells that differ from the first ones, once the gas is back
   notes = /** @type {string[]} */ ([]); // what the page is to say
@@ -75,9 +75,9 @@ export class Flow {
     return this.direction > 0 ? this.generation : this.reversedAt - this.generation;
   }
 
-  /** What edits flip is remembered with its generation. */
+  /** What edits and the drive flip is remembered with its generation. */
   flip(at, bits) {
-    if (this.direction < 0) this.isDisturbed = true;
+    if (this.direction < 0 || this.isMessage) this.isDisturbed = true;
     else if (this.canReverse) this.history.flip(this.generation, this.cells, at, bits);
     this.cells.flip(at, bits);
   }

@@ -100,7 +100,6 @@ export function flipOne(flow, place) {
       if (!alone) continue;
       const before = { ...flow }, flips = [[at, alone | reversed[alone]]];
       flow.edit(flips);
-      flow.isDisturbed ||= flow.isMessage;
       flow.mark = { at: cells.placeOf(at), generation: flow.generation };
       const all = count(flow.totals()[1]), cell = `column ${at % cells.width}, row ${Math.floor(at / cells.width)}`;
       flow.notes.push(`One of ${all} particles was turned: ${cell}.`);

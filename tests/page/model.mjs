@@ -219,6 +219,27 @@ test("a message that comes back", () => {
   const [generation, found] = read(1);
   assert.ok(generation === 0 && found > 1000, `with one particle flipped first it does not: ${found}`);
 });
+// whatever changes cells of a message, it does not come back, and what was drawn stays
+const DISTURBING = { "a stroke": (experiment) => experiment.stroke({ from: [40, 20], to: [44, 24], radius: 1, solid: true, end: true }),
+  "a burst": (experiment) => experiment.act("burst", (flow) => dense(flow, { at: [60, 30], radius: 2 })),
+  "a wind": ({ watched: [{ flow }] }) => (flow.drive.keep(0.1), flow.advance(1)), "a particle": (experiment) => experiment.flip([60, 30]) };
+for (const [what, disturb] of Object.entries(DISTURBING)) test(`a message that was disturbed by ${what}`, () => {
+  const experiment = Object.assign(new Experiment(), { make });
+  experiment.start({ starts: [{ ...FIRST, shape: "text", text: "L" }], state: "" });
+  const [{ flow }] = experiment.watched, before = flow.cells.kept();
+  disturb(experiment);
+  if (what !== "a wind") { // undone at once it is as it was
+    experiment.undo();
+    assert.ok(flow.cells.differing(before) === 0 && !flow.isDisturbed, "it is undone");
+    disturb(experiment);
+  }
+  const fluid = flow.totals()[0];
+  flow.drive.keep(null);
+  flow.reverse();
+  flow.advance(5000);
+  assert.ok(flow.generation === 0 && flow.found > 1000, `it does not come back: ${flow.found} cells differ`);
+  assert.equal(flow.totals()[0], fluid, "the obstacle stays");
+});
 test("a broken text is none", () => assert.ok([sealed(text).slice(0, -1), `${sealed(text)}A`, sealed(text).replace(/.$/, (sign) => (sign === "A" ? "B" : "A")), "", "AA", "HELLO"]
   .every((letters) => unsealed(letters) === null)));
 const [, most] = refusalOf("A".repeat(400), ...channel).match(/: (\d+) of them fit/).map(Number);
