@@ -1,5 +1,5 @@
 // What the controls do.
-import { applyState, hasText, isShort, refusal, setControl, showOpened, sizes, stateText, writeAddress } from "./address.js";
+import { applyState, hasText, isShort, refusal, setControl, showOpened, sizes, startText, stateText, writeAddress } from "./address.js";
 import { record, save } from "./files.js";
 import { GASES } from "./gases.js";
 import { closer, fit, looked, paced } from "./look.js";
@@ -7,11 +7,11 @@ import { spelled } from "./message.js";
 import { count } from "./numbers.js";
 import { paintNumbers } from "./panel.js";
 import { repaint, tellNumbers, update } from "./screen.js";
-import { $, amount, asked, chosen, element, head, look, marks, motion, preset, shown, tell, view } from "./state.js";
-import { go, move } from "./time.js";
+import { $, amount, asked, chosen, element, head, isFile, isStill, look, marks, motion, preset, shown, source, tell, view } from "./state.js";
+import { go, keepOn, move } from "./time.js";
 import { hideNotes, introduce, note } from "./words.js";
 
-const isStill = matchMedia("(prefers-reduced-motion: reduce)").matches, bodyClass = document.body.classList;
+const bodyClass = document.body.classList;
 
 function startsOf(lengths = "") {
   const { gases, shapes } = preset(), [width, height] = sizes();
@@ -21,7 +21,7 @@ function startsOf(lengths = "") {
     filling: amount("fill"), wind: amount("wind"), radius: amount("radius") }));
 }
 
-export function start(hasLength = false, lengths = "") {
+export function start(hasLength = false, lengths = "", isTurned = false) {
   const why = hasText() && shown.frames.length ? refusal(chosen.text) : "";
   if (why) return void note(why, "bad", 9);
   const { rests, length, flips } = preset(), starts = startsOf(lengths), [{ width, height, gas }] = starts;
@@ -34,9 +34,13 @@ export function start(hasLength = false, lengths = "") {
   Object.assign(look, { isWhole: true, pace: "" });
   looked();
   tell("start", { starts, state: stateText(), asked: ++asked.starts });
-  if (flips) tell("flip", { at: [width / 2, (height * apart) / 2], radius: 1 });
-  go(!isStill && !rests);
+  if (flips || isTurned) tell("flip", { at: [width / 2, (height * apart) / 2], radius: 1 });
+  if (isTurned) tell("turn", {});
+  go(isTurned || (!isStill && !rests));
 }
+
+/** A message as it was sent, perhaps with one particle turned, and on the way back. */
+export const again = (isTurned) => start(false, "", isTurned);
 
 function write() {
   const text = spelled($("text").value), why = refusal(text);
@@ -66,9 +70,15 @@ function half() {
   repaint();
 }
 
+/** Takes away what was said of the cells before. */
+function silence() {
+  hideNotes();
+  if (hasText() && !shown.isOpened) introduce();
+}
+
 /** Goes back, if all flows can, or offers a way on. */
 function back(command) {
-  hideNotes();
+  silence();
   if (shown.frames.some(({ canReverse }) => !canReverse)) {
     const why = "Pairs turn at random here, and their random bits only run forwards.";
     const offer = element("button", { id: "offer" }, "Go on with left");
@@ -84,10 +94,23 @@ function back(command) {
   go(command === "turn");
 }
 
+/** Saves the page with this start in it: whoever opens this file sees it as one does who follows a link. */
+function pack() {
+  const page = source.replace(/(id="sent">)[^<]*/, (_, tag) => tag + startText());
+  save(new Blob([page], { type: "text/html" }), hasText() ? "a-message.html" : "fhpgas.html");
+}
+
 function link() {
   if (shown.isOpened) return note("No link has the cells of a scene that was opened: save the scene, and pass that on.", "bad", 9);
+  const text = hasText() && spelled($("text").value);
+  if (text && text !== chosen.text) return write();
   writeAddress();
   const less = isShort() ? "" : ", without what was drawn, which is too much: save the scene";
+  if (isFile) {
+    const offer = element("button", { id: "pack" }, "Save it as a file to send");
+    offer.onclick = pack;
+    return note(`This page is a file, and no link leads to it from elsewhere${less}.`, "", 20).append(offer);
+  }
   const told = () => note(`The link to this start is copied${less}.`, "good", 4), url = location.href;
   const shownOnly = () => note(`This browser does not let the page copy: the link is in the address bar${less}.`, "", 9);
   if (navigator.clipboard) navigator.clipboard.writeText(url).then(told, shownOnly);
@@ -130,6 +153,7 @@ export const acts = {
   keep: command("keep", () => ({ wind: $("keep").checked ? amount("wind") : null })),
   wind: () => $("keep").checked && acts.keep(),
   undo: command("undo"),
+  redo: command("redo"),
   clear: command("clear"),
   field: (field) => {
     chosen.field = field;
@@ -163,11 +187,11 @@ export const acts = {
   length: () => tellNumbers(0),
   back: () => back("back"),
   play: () => {
-    hideNotes();
+    silence();
     go(!shown.isRunning);
   },
   step,
   half,
-  pace: () => go(shown.isRunning),
+  pace: keepOn,
   turn: () => back("turn"),
 };

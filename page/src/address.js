@@ -11,6 +11,7 @@ const LOW = 480; // pixels of a phone on its side
 const HELLO = "HELLO"; // the message of a start that has none
 const MOST_RUNS = 8000; // letters of what was drawn
 const OF_PRESET = ["size", "chirality", "developed", "fill", "wind", "radius", "pace", "smooth", "span", "keep"];
+const OF_WINDOW = ["size", "length"];
 const CONTROLS = [...OF_PRESET, "gas", "seed", "length", "tracers"];
 const opened = element("option", { value: OPENED }, "an opened scene");
 let written = ""; // by the page
@@ -35,10 +36,23 @@ const drive = () => (hasGrains() ? "3" : "2");
 const hasGrains = () => preset().shapes[0] === "porous";
 export const hasText = () => preset().shapes[0] === "text";
 
+/** What the preset begins with in this window. */
+function fitted() {
+  const { upright, flat } = preset();
+  return { ...preset(), ...(innerHeight > innerWidth ? upright : innerHeight < LOW ? flat : {}) };
+}
+
+/** Whether a message has the size of this window, and fits all windows: then its readers have it in the size of theirs. */
+function isOfWindow() {
+  const { size, upright, flat } = preset(), fits = (one) => !refusal(chosen.text, one.split(" x ").map(Number));
+  return $("size").value === fitted().size && [size, upright.size, flat.size].every(fits);
+}
+
+/** The state of the controls. A text stands first, because some programs cut the end of a link off. */
 export function stateText() {
-  const state = new URLSearchParams({ scene: chosen.preset, field: chosen.field, drive: drive() });
-  for (const id of CONTROLS) state.set(id, valueOf(id));
-  if (hasText()) state.set("text", sealed(chosen.text));
+  const state = new URLSearchParams(hasText() ? { text: sealed(chosen.text) } : {}), isFree = hasText() && isOfWindow();
+  Object.entries({ scene: chosen.preset, field: chosen.field, drive: drive() }).forEach((one) => state.set(...one));
+  for (const id of CONTROLS) if (!isFree || !OF_WINDOW.includes(id)) state.set(id, valueOf(id));
   const rounded = (values) => values.map((value) => Number(value.toFixed(2))).join(" ");
   if (!look.isWhole) state.set("at", rounded([look.place.x, look.place.y, look.place.scale]));
   if (marks.probe) state.set("probe", rounded([...marks.probe.at, marks.probe.radius]));
@@ -65,8 +79,7 @@ export function applyState(text) {
   const take = (id) => state.has(id) && !setControl(id, state.get(id)) && refused.push(`${id}=${state.get(id)}`);
   take("scene");
   if ($("scene").value !== OPENED) chosen.preset = $("scene").value;
-  const { upright, flat } = preset(), fitting = innerHeight > innerWidth ? upright : innerHeight < LOW ? flat : {};
-  const first = { ...preset(), ...fitting };
+  const first = fitted();
   for (const id of OF_PRESET) setControl(id, first[id]);
   setControl("gas", first.gases[0]);
   if (state.has("seed")) setControl("developed", false); // an older link
@@ -100,10 +113,15 @@ export const isForeign = () => location.hash !== written;
 
 export const isShort = () => head().lengths.length < MOST_RUNS;
 
-/** Writes the state, and what was drawn, into the address, without a step of the history. */
+/** The state of the controls, and what was drawn. */
+export function startText() {
+  const { lengths } = head();
+  return stateText() + (lengths && isShort() ? `&runs=${lengths}` : "");
+}
+
+/** Writes it into the address, without a step of the history. */
 export function writeAddress() {
-  const { lengths } = head(), drawn = lengths && isShort() ? `&runs=${lengths}` : "";
-  const hash = shown.isOpened ? `#${OPENED}` : `#${stateText()}${drawn}`;
+  const hash = `#${shown.isOpened ? OPENED : startText()}`;
   if (hash === written) return;
   location.replace(hash);
   written = location.hash;

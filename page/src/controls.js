@@ -25,7 +25,7 @@ function made({ id, key, label, kind, said, style = "", options = [], attributes
   const list = options.map(([value, text]) => element("option", { value }, text));
   const type = kind === "check" ? "checkbox" : kind;
   const input = kind === "list" ? element("select", own, ...list) : element("input", { type, ...own, ...attributes });
-  const value = said ? [element("output", { for: id })] : [];
+  const value = said ? [element("output", { for: id, "aria-hidden": "true" })] : [];
   return element("label", { for: id, title: HELP[id] }, element("span", {}, name, shortcut), input, ...value);
 }
 
@@ -92,11 +92,11 @@ function listen(keys) {
     isByPointer = false;
     if (key === "Escape" && !$("close").hidden) return void $("close").click();
     if (key === "Escape" || (key === "Enter" && /number|text/.test(focused.type))) return void focused.blur();
-    const isUndo = key.toLowerCase() === "z" && hasControl;
+    const isUndo = key.toLowerCase() === "z" && hasControl, shifted = isUndo ? "Shift+Backspace" : `Shift+${key}`;
     if (isOwn(focused, event)) return void (letterAt &&= event.timeStamp);
     if (event.altKey || (hasControl && !isUndo)) return;
     if (/^[^ ]$/.test(key) && !isUndo && !$("letters").checked) return;
-    const id = isUndo ? "undo" : keys.get(key) ?? keys.get(key.toLowerCase()) ?? (/^[>:]$/.test(key) ? "pace" : "");
+    const id = (shiftKey && keys.get(shifted)) || (isUndo ? "undo" : keys.get(key) ?? keys.get(key.toLowerCase()) ?? (/^[>:]$/.test(key) ? "pace" : ""));
     if (!id) return;
     event.preventDefault();
     if (id === "play") space.isUsed &&= event.repeat;

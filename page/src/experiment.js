@@ -9,14 +9,18 @@ import { Stroke } from "./tools.js";
 
 const MOST_UNDO = 50, MOST_STARTS = 4; // of which each keeps a lattice
 
+/** @typedef {{ what: string, undo: () => void, redo: () => void }} Done */
+
 export class Experiment {
   make = /** @type {MakeKernel} */ (() => { throw new Error("there is no kernel"); });
   watched = /** @type {Watched[]} */ ([]);
   state = ""; // of the controls, with these flows
   serial = 0;
   asked = 0; // the start of the page's that was made last
-  past = /** @type {{ what: string, undo: () => void }[]} */ ([]); // what can be undone, as the button says it
-  strokes = /** @type {Map<Flow, Stroke>} */ (new Map()); // what is being drawn
+  past = /** @type {Done[]} */ ([]); // what can be undone, as the button says it
+  undone = /** @type {Done[]} */ ([]); // and what can be done again
+  strokes = /** @type {Map<Flow, Stroke>} */ (new Map()); // what is being drawn, and its pieces
+  pieces = /** @type {Piece[]} */ ([]);
 
   /** Takes the module of a text: all flows go on in it. */
   async take(text) {
@@ -35,9 +39,10 @@ export class Experiment {
     for (const { flow, twin } of watched) [flow, twin].forEach((one) => one?.moveTo(this.make));
   }
 
-  /** What was done can be undone, the last first. */
-  did(what, undo) {
-    this.past.push({ what, undo });
+  /** What was done can be undone, the last first, and then done again, which adds it here again. */
+  did(what, undo, redo) {
+    this.past.push({ what, undo, redo });
+    this.undone = [];
     const starts = this.past.flatMap((one, k) => (/start|gas/.test(one.what) ? k : []));
     const oldest = starts.length > MOST_STARTS ? starts[starts.length - MOST_STARTS] : 0;
     this.past.splice(0, Math.max(oldest, this.past.length - MOST_UNDO));
@@ -52,10 +57,17 @@ export class Experiment {
   }
 
   keepOld(what) {
-    const { watched, state } = this;
+    const { watched, state } = this, back = (before) => {
+      this.move(before.watched);
+      this.show(before.watched, before.state);
+    };
+    let after = { watched, state };
     this.did(what, () => {
-      this.move(watched);
-      this.show(watched, state);
+      after = { watched: this.watched, state: this.state };
+      back({ watched, state });
+    }, () => {
+      this.keepOld(what);
+      back(after);
     });
   }
 
@@ -105,6 +117,7 @@ export class Experiment {
   }
 
   stroke(piece) {
+    this.pieces.push(piece);
     this.each((flow) => {
       const stroke = this.strokes.get(flow) ?? new Stroke();
       this.strokes.set(flow, stroke);
@@ -112,8 +125,9 @@ export class Experiment {
       if (piece.end) stroke.tell(flow, piece.solid);
     });
     if (!piece.end) return;
-    const strokes = [...this.strokes].filter(([, { flips }]) => flips.size);
-    if (strokes.length) this.did("stroke", () => strokes.forEach(([flow, stroke]) => stroke.undo(flow)));
+    const strokes = [...this.strokes].filter(([, { flips }]) => flips.size), pieces = this.pieces.splice(0);
+    const undo = () => strokes.forEach(([flow, stroke]) => stroke.undo(flow));
+    if (strokes.length) this.did("stroke", undo, () => pieces.forEach((one) => this.stroke(one)));
     this.strokes.clear();
   }
 
@@ -121,7 +135,7 @@ export class Experiment {
   act(what, act) {
     const undone = /** @type {(() => void)[]} */ ([]);
     this.each((flow) => undone.push(act(flow)));
-    this.did(what, () => undone.forEach((undo) => undo()));
+    this.did(what, () => undone.forEach((undo) => undo()), () => this.act(what, act));
   }
 
   /** Flips one particle, and goes on beside it without this flip. */
@@ -131,11 +145,24 @@ export class Experiment {
     this.did("turn", () => {
       for (const watched of this.watched) watched.cone = null;
       undone.forEach((undo) => undo());
-    });
+    }, () => this.flip(at));
   }
 
   undo() {
     for (const watched of this.watched) watched.twin = null;
-    this.past.pop()?.undo();
+    const last = this.past.pop();
+    last?.undo();
+    if (last) this.undone.push(last);
+  }
+
+  redo() {
+    const { undone } = this;
+    undone.pop()?.redo();
+    this.undone = undone;
+  }
+
+  /** Whether all flows have come back to their start, and rest there. */
+  get isBack() {
+    return this.watched.every(({ flow }) => flow.found !== null);
   }
 }

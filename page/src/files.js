@@ -25,20 +25,25 @@ export function record(ended) {
   recorder.start(1000);
 }
 
-export function takeScenes(open) {
+/** Takes what is chosen, dropped or pasted: a scene opens, and the start of a link, or of a page that was sent, is followed. */
+export function takeFiles(open, follow) {
+  const startOf = (text) => text.match(/(?:#|id="sent">)((?:text|scene)=[^\s<]+)/)?.[1];
+  const take = (text) => (startOf(text) ? follow(startOf(text)) : open(text));
   $("file").onchange = async ({ target }) => {
     const text = await target.files[0]?.text();
     target.value = "";
-    if (text !== undefined) open(text);
+    if (text !== undefined) take(text);
   };
   document.addEventListener("dragover", (event) => event.preventDefault());
   document.addEventListener("drop", async (event) => {
     event.preventDefault();
     const text = (await event.dataTransfer?.files[0]?.text()) ?? event.dataTransfer?.getData("text");
-    if (text) open(text);
+    if (text) take(text);
   });
   document.addEventListener("paste", (event) => {
-    const text = event.clipboardData?.getData("text");
-    if (text?.includes("=")) open(text);
+    const text = event.clipboardData?.getData("text") ?? "";
+    if (!startOf(text) && (event.target === $("text") || !text.includes("="))) return;
+    event.preventDefault();
+    take(text);
   });
 }

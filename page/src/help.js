@@ -2,24 +2,25 @@
 import { GASES } from "./gases.js";
 import { element } from "./state.js";
 
-export const KEY_NAMES = { " ": "space", ArrowLeft: "←", ArrowRight: "→", Enter: "↵", Backspace: "⌫" };
+export const KEY_NAMES = { " ": "space", ArrowLeft: "←", ArrowRight: "→", Enter: "↵", Backspace: "⌫", "Shift+Backspace": "⇧⌫" };
 
 /** @type {Record<string, string>} by the ids of the controls */
 export const HELP = {
   scene: "What the lattice begins with.",
-  send: "Copies a link with the message, which nobody can read in it, and shares it if the browser can.",
+  send: "Copies a link with the message, or saves a file that has it, in which nobody can read it.",
   text: "What is written into the gas before it runs for 3,000 generations.",
   size: "How many cells the lattice has across and down.",
   fill: "The filling d: the chance that a cell has a particle in a direction.",
   radius: "The radius of the obstacles in cells.",
   developed: "Begins with a flow that has had its time to form, if one of this size, wind and obstacle is kept.",
   seed: "The number from which all random numbers of a start are drawn.",
-  start: "Begins again with these values.", open: "Opens a scene from a file. It can be dropped or pasted too.",
+  start: "Begins again with these values.", open: "Opens a scene, or a page that was sent. They can be dropped, and a link can be pasted.",
   gas: `The rules: ${Object.values(GASES).map(({ label, rule }) => `${label} has ${rule}`).join(", ")}.`,
   chirality: "To which side two particles that meet head-on turn. At random time cannot go back.",
   keep: "Turns a few particles in every generation, so that walls do not stop the wind.",
   wind: "The mean velocity eastwards, in cells per generation.",
   undo: "Undoes what was done last: a stroke, a clearing, a burst, a turn, another gas or a start.",
+  redo: "Does again what was undone last.",
   clear: "Takes all obstacles away.",
   speed: "Shows how fast the gas is.", vorticity: "Shows how the gas turns: red anticlockwise, blue clockwise.",
   difference: "Shows where the gas differs from a copy in which no particle was turned.",
@@ -38,7 +39,7 @@ export const HELP = {
   length: "The length L of the Reynolds and Strouhal numbers, in cells.",
   save: "Saves the cells as a scene, which the program fhpgas continues.",
   film: "Films the picture until you press again.", picture: "Saves the picture.",
-  link: "Copies a link to this start.", numbersAll: "Shows or hides all numbers.",
+  link: "Copies a link to this start, or saves a file that opens with it.", numbersAll: "Shows or hides all numbers.",
   back: "Goes back by one generation.", play: "Runs the gas, or pauses it.", step: "Goes on by one generation.",
   half: "Shows single cells, and half of a generation: particles collide, then they hop.",
   pace: "How many generations there are in a second, at most.",

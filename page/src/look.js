@@ -4,7 +4,7 @@ import { repaint, screen, update } from "./screen.js";
 import { $, NEAR, amount, chosen, head, look, paneWidth, shown, tell, view } from "./state.js";
 import { stripHeight } from "./strip.js";
 import { BLOCKS, SPANS } from "./table.js";
-import { go, isSlow } from "./time.js";
+import { isSlow, keepOn } from "./time.js";
 import { note } from "./words.js";
 
 function lookFrom(place) {
@@ -44,7 +44,7 @@ export function paced(before) {
   const pace = isNear ? "1 s" : $("pace").value === "1 s" && look.pace;
   look.pace = isNear ? $("pace").value : "";
   if (pace) setControl("pace", pace);
-  go(shown.isRunning);
+  keepOn();
 }
 
 export function closer(factor) {

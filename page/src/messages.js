@@ -25,20 +25,20 @@
  * @typedef {{
  *   engine: { text: string, isProved: boolean }, open: { text: string, state: string },
  *   start: { starts: Start[], state: string, asked?: number }, gas: { gas: string, starts: Start[], state: string },
- *   chirality: { chirality: Chirality }, keep: { wind: number | null }, run: { on: boolean, pace: number, asked: number },
- *   step: {}, back: {}, turn: {}, undo: {}, clear: {}, save: {}, seen: {}, hash: { isWanted: boolean },
+ *   chirality: { chirality: Chirality }, keep: { wind: number | null }, run: { on: boolean, pace: number, asked: number, isOther: boolean },
+ *   step: {}, back: {}, turn: {}, undo: {}, redo: {}, clear: {}, save: {}, seen: {}, hash: { isWanted: boolean },
  *   view: View, stroke: Piece, dense: Disc, flip: Disc, probe: Disc,
  * }} Commands
  */
 
 /**
  * What the worker says, by name. `serial` counts the starts, `asked` is the number of the last one that the page asked
- * for, `runs` of the last run, `strokes` the pieces since the last frame, `undoes` what undo takes back. A scene that is
+ * for, `runs` of the last run, `strokes` the pieces since the last frame, `undoes` what undo takes back, `redoes` what redo does again. A scene that is
  * refused changes nothing.
  * @typedef {{
  *   engine: { fault: string, isProved: boolean },
  *   frames: { frames: Frame[], isRunning: boolean, runs: number, serial: number, asked: number, state: string,
- *     strokes: number, undoes: string, hashes?: string[] },
+ *     strokes: number, undoes: string, redoes: string, hashes?: string[] },
  *   files: { files: { text: string, name: string }[] }, hashes: { hashes: string[] },
  *   fault: { fault: string, isRefused: boolean },
  * }} Answers

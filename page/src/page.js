@@ -3,7 +3,7 @@ import { acts, start } from "./acts.js";
 import { OPENED, applyState, isForeign } from "./address.js";
 import { makeControls } from "./controls.js";
 import { readTheme } from "./draw.js";
-import { save, takeScenes } from "./files.js";
+import { save, takeFiles } from "./files.js";
 import { MOST_CELLS } from "./gases.js";
 import { makeHelp } from "./help.js";
 import { fit, looked } from "./look.js";
@@ -11,7 +11,7 @@ import { count } from "./numbers.js";
 import { paintNumbers, said } from "./panel.js";
 import { listenToPointers } from "./pointer.js";
 import { repaint, screen, update } from "./screen.js";
-import { $, asked, chosen, element, head, look, marks, motion, shown, tell, view, worker } from "./state.js";
+import { $, asked, chosen, element, head, look, marks, motion, sent, shown, tell, view, worker } from "./state.js";
 import { stripHeight } from "./strip.js";
 import { tableOf } from "./table.js";
 import { take } from "./taken.js";
@@ -60,7 +60,7 @@ function seekEngine() {
 }
 
 function begin() {
-  const { isOlder, hasLength, lengths, ...pending } = applyState(location.hash.slice(1));
+  const { isOlder, hasLength, lengths, ...pending } = applyState(location.hash.slice(1) || sent);
   Object.assign(asked, pending);
   start(hasLength, lengths);
   if (isOlder) note("This link is older than the force that keeps the wind now, or than these grains: its cells were other ones.", "", 9);
@@ -71,13 +71,20 @@ worker.onmessage = ({ data }) => answers[/** @type {keyof Answers} */ (data.name
 worker.onerror = ({ message }) => note(`A mistake in this page: ${message}`, "bad");
 screen.take = take;
 makeHelp($("help").lastElementChild, makeControls(tableOf(acts), update));
-takeScenes((text) => tell("open", { text, state: OPENED }));
+takeFiles((text) => tell("open", { text, state: OPENED }), (start) => {
+  if (location.hash.slice(1) === start) begin();
+  else location.hash = start;
+});
 listenToPointers();
 new ResizeObserver(() => {
   readTheme();
   $("note").style.bottom = `${stripHeight(view().clientWidth) + 6}px`;
   if (shown.frames.length) look.isWhole ? fit() : looked();
 }).observe(view());
+$("numbers").onclick = ({ target }) => {
+  const { title } = target.closest("div");
+  if (title) note(title, "", 9);
+};
 $("close").onclick = () => $($("all").hidden ? "helpAll" : "numbersAll").click();
 matchMedia("(prefers-color-scheme: dark)").onchange = () => {
   readTheme();

@@ -42,7 +42,7 @@ export function paintNumbers() {
     const [text, name] = rows[k] ?? ["", ""];
     box.className = k === 0 && isBack ? "back" : "";
     box.hidden = k >= rows.length;
-    box.title = k ? [...warnings].join(" ") : "";
+    box.title = k ? [...warnings].join(" ") : ""; // which a tap shows as a note
     setText(box.children[0], text);
     setText(box.children[1], name);
   });

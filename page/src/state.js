@@ -4,6 +4,13 @@ import { PRESETS } from "./presets.js";
 export const NEAR = 10; // pixels across a cell from which single cells are shown
 export const GAP = 16; // pixels between two pictures
 
+/** The page as it came, for a file to send, and the start that it was sent with, which it has for an address. */
+export const source = `<!doctype html>\n${document.documentElement.outerHTML}\n`;
+export const sent = document.getElementById("sent")?.textContent ?? "";
+export const isFile = !location.protocol.startsWith("http"); // to which no link leads from elsewhere
+
+export const isStill = matchMedia("(prefers-reduced-motion: reduce)").matches; // nothing moves before one asks for it
+
 /** What the worker sent, and what is on the screen of it. */
 export const shown = {
   queue: /** @type {Answers["frames"][]} */ ([]), // frames that were not painted
@@ -12,6 +19,7 @@ export const shown = {
   isRunning: false,
   isOpened: false, // a scene
   undoes: "", // what undo takes back
+  redoes: "", // what redo does again
   hashes: /** @type {string[]} */ ([]),
   times: /** @type {[time: number, generation: number][]} */ ([]), // when frames were painted
   painted: 0,

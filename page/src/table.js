@@ -5,7 +5,7 @@ import { isFilming } from "./files.js";
 import { GASES } from "./gases.js";
 import { count } from "./numbers.js";
 import { PRESETS } from "./presets.js";
-import { $, chosen, head, motion, preset, shown } from "./state.js";
+import { $, chosen, head, isFile, isStill, motion, preset, shown } from "./state.js";
 
 const SIZES = ["4 x 3", "64 x 32", "256 x 128", "256 x 256", "256 x 384", "512 x 192", "512 x 256", "512 x 512",
   "512 x 768", "640 x 960", "1024 x 384", "1024 x 512", "2048 x 512", "2048 x 1024", "3200 x 1016", "4096 x 1024"];
@@ -16,7 +16,7 @@ export const SPANS = [1, 3, 10, 30, 100, 300, 1000, 3000, 10000, 30000];
 
 const hasCone = () => chosen.field === "difference" || preset().flips;
 const isBare = () => document.body.classList.contains("bare");
-const isWaiting = () => !shown.isRunning && preset().rests && head()?.generation === 0 && !motion.isOn;
+const isWaiting = () => !shown.isRunning && (isStill || preset().rests) && head()?.generation === 0 && !motion.isOn;
 const isBack = () => head()?.direction < 0; // controls that would change the rules wait
 const cells = (value) => `${count(value)} cell${value > 1 ? "s" : ""}`;
 const wide = (value) => cells(BLOCKS[value][0] * (BLOCKS[value][1] ? 2 : 1));
@@ -38,7 +38,7 @@ export const tableOf = (acts) => /** @type {any} */ ([
     list("l", "scene", "scene", named(Object.keys(PRESETS), String), acts.preset),
     { key: "F8", id: "text", label: "text", kind: "text", act: acts.write, isHidden: () => !hasText(),
       attributes: { placeholder: "your own text", maxlength: 300, autocomplete: "off", spellcheck: "false" } },
-    button("F9", "send", "Copy link", acts.link, { isHidden: () => !hasText() })] },
+    button("F9", "send", "Copy link", acts.link, { isHidden: () => !hasText(), text: () => (isFile ? "Send it" : "Copy link") })] },
   { title: "A new start", place: "panel", controls: [
     list("k", "size", "cells", named(SIZES, (size) => size.replace("x", "×")), acts.start),
     slider("f", "fill", "filling d", [0.05, 0.45, 0.01], acts.start, String, { isLate: true }),
@@ -53,7 +53,8 @@ export const tableOf = (acts) => /** @type {any} */ ([
     check("j", "keep", "keep wind", acts.keep, { isOff: isBack }),
     slider("w", "wind", "wind u", [0, 0.4, 0.02], acts.wind, String, { isOff: isBack }),
     half("Backspace", "undo", "undo", acts.undo, { isOff: () => !shown.undoes, text: () => `undo ${shown.undoes}` }),
-    half("4", "clear", "clear", acts.clear)] },
+    half("Shift+Backspace", "redo", "redo", acts.redo, { isOff: () => !shown.redoes, text: () => `redo ${shown.redoes}` }),
+    button("4", "clear", "clear", acts.clear, { style: "full" })] },
   { title: "See", place: "panel", controls: [
     ...Object.entries(FIELDS).map(([id, { key }]) =>
       half(key, id, id, () => acts.field(id),

@@ -1,20 +1,20 @@
 // What the worker sent is taken: the next frame, perhaps of flows that begin.
-import { start } from "./acts.js";
+import { again } from "./acts.js";
 import { OPENED, applyState, hasText, setControl, showOpened, stateText } from "./address.js";
 import { fit, lookAsAsked } from "./look.js";
 import { count } from "./numbers.js";
 import { wallsOf } from "./picture.js";
 import { setProbe } from "./pointer.js";
 import { panes, screen } from "./screen.js";
-import { asked, element, head, marks, motion, shown } from "./state.js";
+import { $, asked, element, head, marks, motion, shown } from "./state.js";
 import { isSlow, move, setRunning } from "./time.js";
 import { hideNotes, introduce, note } from "./words.js";
 
-export function take({ frames, serial, asked: number, undoes, isRunning, runs, strokes, state, hashes = [] }) {
+export function take({ frames, serial, asked: number, undoes, redoes, isRunning, runs, strokes, state, hashes = [] }) {
   const isNew = serial !== shown.serial, before = isNew ? null : head(), { generation, direction } = frames[0];
-  if (undoes !== shown.undoes || direction !== before?.direction) screen.toldAt = 0;
+  if (undoes !== shown.undoes || redoes !== shown.redoes || direction !== before?.direction) screen.toldAt = 0;
   const isMoved = generation !== before?.generation;
-  Object.assign(shown, { frames, serial, undoes, hashes });
+  Object.assign(shown, { frames, serial, undoes, redoes, hashes });
   if (!isSlow() && runs === asked.runs) shown.isRunning = isRunning; // else of a frame that was under way
   marks.pieces.splice(0, strokes);
   if (isNew) beginAnew(state, number < asked.starts);
@@ -48,13 +48,20 @@ function sample({ probe, generation, incoming, direction }) {
 function tellReturn(before) {
   const { found, generation, width, height } = head();
   if (found === null || !before || before.found !== null) return;
-  const whose = `${count(found)} of ${count(width * height)} cells differ from the cells of then.`;
   setRunning(false);
-  note(`Back at generation ${count(generation)}: ${whose}`, found ? "bad" : "good");
-  if (shown.isOpened || !hasText()) return;
-  const again = element("button", { id: "again" }, "Back to the noise");
-  again.onclick = () => start();
-  note(found ? "That is what one turn does." : "Now turn one particle (t), and try again.", "").append(again);
+  if (hasText() && !shown.isOpened) return tellMessage(found);
+  note(`Back at generation ${count(generation)}: ${count(found)} of ${count(width * height)} cells differ from the cells of then.`, found ? "bad" : "good");
+}
+
+/** Of a message the sentence says it, because a note would lie on the text. */
+function tellMessage(found) {
+  introduce(found ? "One change is enough: the text does not come back." : "Each cell is as it was. Now turn one particle (t), and try again.");
+  const offer = (id, text, isTurned) => {
+    const one = element("button", { id, type: "button" }, text);
+    one.onclick = () => again(isTurned);
+    return one;
+  };
+  $("sentence").append(" ", offer("once", "Turn one, and go back again", true), " ", offer("again", "Back to the noise", false));
 }
 
 /** The flows of a state are there, perhaps late, because the controls have asked for others meanwhile. */

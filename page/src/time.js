@@ -4,10 +4,13 @@ import { $, asked, motion, shown, tell } from "./state.js";
 
 export const isSlow = () => $("pace").value.endsWith(" s");
 
-export function go(on) {
-  tell("run", { on: on && !isSlow(), pace: parseFloat($("pace").value) || Infinity, asked: ++asked.runs });
+/** Runs or pauses. A run that only has another pace does not begin anew if it has come back to its start meanwhile. */
+export function go(on, isOther = true) {
+  tell("run", { on: on && !isSlow(), pace: parseFloat($("pace").value) || Infinity, asked: ++asked.runs, isOther });
   setRunning(on);
 }
+
+export const keepOn = () => go(shown.isRunning, false);
 
 export function setRunning(on) {
   shown.isRunning = on;

@@ -61,11 +61,11 @@ export function cleared(flow) {
 }
 
 /** What undoes an edit by flipping the same bits again, if nothing happened since. */
-function undoing(flow, flips, what, { changes, isDisturbed, mark }) {
+function undoing(flow, flips, what, { changes, isDisturbed, mark }, undo = () => 0) {
   const after = flow.changes;
   return () => {
     const isExact = flow.changes === after;
-    if (isExact) (flow.edit(flips), Object.assign(flow, { changes, isDisturbed, mark }));
+    if (isExact) (undo(), flow.edit(flips), Object.assign(flow, { changes, isDisturbed, mark }));
     flow.notes.push(isExact ? `The ${what} is undone.`
       : `The particles have moved on since the ${what}: only time that runs back (r) undoes it.`);
   };
@@ -76,7 +76,7 @@ function undoing(flow, flips, what, { changes, isDisturbed, mark }) {
  * undoes it.
  */
 export function dense(flow, { at, radius }) {
-  const { cells, gas, drive } = flow, before = { ...flow }, flips = /** @type {number[][]} */ ([]);
+  const { cells, gas, drive } = flow, before = { ...flow }, { random } = drive, flips = /** @type {number[][]} */ ([]);
   const inside = new Set(cells.near(at, at, radius)), isIn = (place) => inside.has(place);
   for (let i = 0; i < gas.directions; i++) {
     for (const to of inside) {
@@ -88,7 +88,7 @@ export function dense(flow, { at, radius }) {
     }
   }
   flow.notes.push(`${count(flips.length / 2)} particles went into the disc, and were taken from everywhere else.`);
-  return undoing(flow, flips, "burst", before);
+  return undoing(flow, flips, "burst", before, () => (drive.random = random));
 }
 
 /** Flips the particle that is nearest to a place and has room, and returns what undoes it. */

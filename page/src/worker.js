@@ -28,11 +28,13 @@ const actsOf = (work, experiment) => ({
       work.post("fault", { fault: /** @type {Error} */ (fault).message, isRefused: true });
     }
   },
-  run: ({ on, pace, asked }) => Object.assign(work, { isRunning: on, pace, runs: asked, since: performance.now() }),
+  run: ({ on, pace, asked, isOther }) =>
+    Object.assign(work, { isRunning: on && (isOther || !experiment.isBack), pace, runs: asked, since: performance.now() }),
   step: () => (work.isStep = true),
   back: () => experiment.reverse((flow) => flow.back()),
   turn: () => experiment.reverse((flow) => flow.reverse()),
   undo: () => experiment.undo(),
+  redo: () => experiment.redo(),
   clear: () => experiment.act("clear", cleared),
   save: () => work.save(),
   seen: () => work.sent--,
@@ -136,18 +138,19 @@ class Work {
     for (const one of watched) one.advance(generations);
     const each = (performance.now() - begun) / generations || 0.01;
     this.most = Math.max(1, Math.min(2 * most, Math.round(Math.max(FULL, SHARE * drawn) / each)));
-    if (watched.every(({ flow }) => flow.found !== null)) this.isRunning = false;
+    if (this.experiment.isBack) this.isRunning = false;
     this.isNew = true;
   }
 
   frame() {
-    const { experiment: { watched, serial, asked, state, past, make }, isRunning, runs, pieces: strokes } = this;
+    const { experiment: { watched, serial, asked, state, past, undone, make }, isRunning, runs, pieces: strokes } = this;
     if (this.view.field === "difference") watched.forEach((one) => one.renew(make));
     const begun = performance.now(), frames = watched.map((one) => one.frame(this.view, this.generations));
     this.drawn = performance.now() - begun;
     this.generations = this.pieces = 0;
     this.sent++;
-    this.post("frames", { frames, isRunning, runs, serial, asked, state, strokes, undoes: past[past.length - 1]?.what ?? "" });
+    const [undoes, redoes] = [past, undone].map((done) => done[done.length - 1]?.what ?? "");
+    this.post("frames", { frames, isRunning, runs, serial, asked, state, strokes, undoes, redoes });
     if (!isRunning && this.isHashWanted) this.hash();
   }
 

@@ -27,9 +27,9 @@ NAMES = (
 
 
 class Page:
-    """A tab of Chromium with the page, in a window of a size, with fingers if it is a phone's."""
+    """A tab of Chromium with the page of an address, in a window of a size, with fingers if it is a phone's."""
 
-    def __init__(self, room, after="", size=(1300, 860), has_fingers=False):
+    def __init__(self, room, after="", size=(1300, 860), has_fingers=False, address=f"file://{FILE}"):
         options = webdriver.ChromeOptions()
         for word in WORDS:
             options.add_argument(word)
@@ -39,13 +39,13 @@ class Page:
         metrics |= {"touch": has_fingers, "mobile": has_fingers}
         options.add_experimental_option("mobileEmulation", {"deviceMetrics": metrics})
         self.driver = webdriver.Chrome(options=options)
-        self.room, self.has_fingers = room, has_fingers
+        self.room, self.has_fingers, self.address = room, has_fingers, address
         self.driver.set_script_timeout(needs.PATIENCE)
         self.go(after)
 
     def go(self, after):
         self.driver.get("about:blank")
-        self.driver.get(f"file://{FILE}{after.replace(' ', '%20')}")
+        self.driver.get(self.address + after.replace(" ", "%20"))
         self.view = self.driver.find_element(By.ID, "view")
         self.wait("shown.painted")
         if not self.has_fingers:
@@ -155,7 +155,7 @@ class Page:
             for one in messages
             if one["method"] == "Network.requestWillBeSent"
         ]
-        here = "file:", "blob:", "data:", "about:"
+        here = "file:", "blob:", "data:", "about:", "http://localhost:"
         strangers = [url for url in asked if not url.startswith(here)]
         errors = [one for one in self.driver.get_log("browser") if one["level"] == "SEVERE"]
         self.driver.quit()

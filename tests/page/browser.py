@@ -1,10 +1,13 @@
 """Uses the page from its file: in Chromium by real events of mouse, fingers and keys, in Firefox by a page that tests itself."""
 
 import base64
+import functools
 import hashlib
+import http.server
 import re
 import shutil
 import subprocess
+import threading
 import time
 
 import needs
@@ -34,6 +37,21 @@ def tab(tool, tmp_path):
     pages = []
     yield lambda *words, **more: pages.append(Page(tmp_path, *words, **more)) or pages[-1]
     close(*pages)
+
+
+class Silent(http.server.SimpleHTTPRequestHandler):
+    def log_message(self, *_):
+        pass
+
+
+@pytest.fixture(scope="module")
+def served():
+    """The address of the page from a server on this machine."""
+    handler = functools.partial(Silent, directory=FILE.parent)
+    with http.server.ThreadingHTTPServer(("localhost", 0), handler) as server:
+        threading.Thread(target=server.serve_forever).start()
+        yield f"http://localhost:{server.server_port}/{FILE.name}"
+        server.shutdown()
 
 
 @pytest.fixture(scope="module")
@@ -75,6 +93,9 @@ def test_begins(page):
     assert page.now("view.clientWidth === innerWidth && view.clientHeight === innerHeight")
     page.key("q")
     assert page.now("view.clientHeight < innerHeight"), "a key shows the controls again"
+    page.driver.find_element(By.CSS_SELECTOR, "#numbers div:nth-child(3)").click()
+    # a tap on the number says what is meant by "too fast"
+    assert "is no incompressible fluid" in page.now("notes.at(-1)")
     reynolds = "const [, box] = $('numbers').children; return Number(box.firstChild.textContent)"
     found = [page.js(reynolds), page.choose("change", length="44"), page.js(reynolds)]
     assert abs(found[2] / found[0] - 0.5) < 0.01, "a shorter length changes Reynolds at once"
@@ -106,7 +127,9 @@ def edited(page):
     page.click("undo")
     page.wait(f"solid === {solid}")
     assert page.now("head.particles") == particles, "a stroke is undone"
-    page.drag("draw", (120, 30), (150, 60), (170, 90))
+    assert page.wait("shown.redoes && $('redo').textContent").startswith("redo stroke")
+    page.key(Keys.SHIFT, Keys.BACKSPACE)
+    assert page.wait(f"solid > {solid} + 500 && solid") == drawn, "and drawn again"
     page.drag("erase", (150, 60), (160, 70))
     page.wait(f"solid < {drawn}")
     page.js(
@@ -399,35 +422,45 @@ CONTRAST = (
 )
 
 
+def comes_back(page):
+    """Turns all particles of a message, of which nobody sees anything before it has come back."""
+    assert page.now("$('text').value === '' && head.generation === 3000 && !shown.isRunning")
+    assert abs(page.now(CONTRAST)) < 25, "nothing is seen in the noise"
+    page.click("turn")
+    found = page.wait("head.found !== null && [head.found, head.generation]")
+    assert found == [0, 0], "it comes back"
+
+
 def test_message(tab):
     """Somebody writes a message, and others open its link in browsers of their own."""
     page = tab(MESSAGE)
     assert page.now("!shown.isRunning && head.generation === 3000"), "it rests, and is noise"
-    page.js("$('text').value = 'x'.repeat(300)"), page.choose("change", text="x" * 300)
+    page.choose("change", text="x" * 300)
     # a long text is refused with a number
     assert "of them fit" in page.now("notes.at(-1)"), page.now("notes")
+    page.click("send")
+    # and while it is there, there is no link and no file
+    assert "of them fit" in page.now("notes.at(-1)") and not page.now("$('pack')")
     serial = page.now("shown.serial")
     page.choose("change", text="i"), page.wait(f"shown.serial > {serial}")
-    is_of_one_sign = "/&text=.{3}$/.test(location.hash)"  # two letters are a sum
+    is_of_one_sign = "/^#text=.{3}&scene/.test(location.hash)"  # two letters are a sum
     link = page.wait(f"{is_of_one_sign} && head.generation === 3000 && location.hash")
     assert "text=i" not in link.lower(), "its address does not show the text"
-    page.click("send"), page.wait("notes.length > 1")
-    assert "link" in page.now("notes.at(-1)"), ("a button copies the link", page.now("notes"))
     page = tab(link)
-    # the reader does not see it
-    assert page.now("$('text').value === '' && head.generation === 3000")
-    assert abs(page.now(CONTRAST)) < 25, "nor in the noise"
-    page.click("turn")
-    found = page.wait("head.found !== null && [head.found, head.generation]")
-    assert found == [0, 0], "it comes back"
+    comes_back(page)
     assert page.wait(f"{CONTRAST} > 60"), "and can be read"
-    told = page.now("[$('numbers').children[1].textContent, notes.at(-1)]")
-    # 0 cells differ, and one is to be flipped
-    assert told == ["0of 32,768 cells differ", "Now turn one particle (t), and try again."]
-    page.click("again"), page.wait("head.generation === 3000 && head.found === null")
-    page.drag("flip", (60, 60)), page.click("turn")
+    told = page.now("[$('numbers').children[1].textContent, $('sentence').textContent, notes.length]")
+    assert told[0] == "0of 32,768 cells differ" and told[2] == 0, ("no note lies on it", told)
+    assert "Now turn one particle" in told[1], told
+    page.click("once")
     assert page.wait("head.found !== null && head.found") > 1000, "with one flipped it does not"
     assert abs(page.now(CONTRAST)) < 25, "and cannot be read"
+    assert "does not come back" in page.now("$('sentence').textContent")
+    page.click("again"), page.wait("head.generation === 3000 && head.found === null")
+    assert page.now("$('sentence').textContent").startswith("There is a message"), "the noise again"
+    page.drag("draw", (60, 60)), page.click("turn")
+    solid = page.wait("head.found > 1000 && solid")
+    assert solid > 100, "with a wall it does not come back, and the wall stays"
     told = page.now("notes.length")
     page.choose("change", scene="one particle turned, and its cone")
     found = page.wait(
@@ -441,6 +474,46 @@ def test_message(tab):
     found = page.wait("head.generation === 3000 && [$('scene').value, chosen.text, solid]")
     # an older address of the L opens it, with what was drawn
     assert found == ["a message in the noise", "L", 10]
+
+
+PASTE = "const data = new DataTransfer(); data.setData('text', arguments[0]); document.dispatchEvent(new ClipboardEvent('paste', { clipboardData: data }))"
+
+
+def test_sent(tab, tmp_path):
+    """From a file a message is sent as a file, which has the page. A link to any page opens if it is pasted."""
+    page = tab(MESSAGE)
+    page.choose("change", text="iwi"), page.wait("chosen.text === 'IWI' && head.generation === 3000")
+    page.click("send")
+    assert "no link leads to it" in page.wait("$('pack') && notes.at(-1)")
+    sent, link = page.saved("pack", ".html"), page.now("location.hash")
+    assert b"iwi" not in sent.lower().split(b'id="kernel"')[0], "nobody reads the text in the file"
+    assert abs(len(sent) - FILE.stat().st_size) < 1000, "it is the page"
+    file = tmp_path / "sent.html"
+    file.write_bytes(sent)
+    reader = tab(address=f"file://{file}")
+    comes_back(reader)
+    assert reader.now("chosen.text") == "IWI"
+    reader.click("send")  # a file that was sent sends others
+    reader.choose("change", text="l"), reader.wait("chosen.text === 'L'"), reader.click("send")
+    file.write_bytes(reader.saved("pack", ".html"))
+    again = tab(address=f"file://{file}")
+    assert again.now("chosen.text") == "L"
+    again.js(PASTE, f"See https://example.org/fhpgas.html{link} tonight")
+    assert again.wait("chosen.text === 'IWI' && head.generation === 3000"), "a pasted link opens"
+
+
+def test_served(tab, served):
+    """From the web the page copies its link, and a message has the size of its reader's window."""
+    page = tab("#scene=a message in the noise", address=served)
+    page.click("send"), page.wait("notes.length")
+    assert "link" in page.now("notes.at(-1)") and not page.now("$('pack')"), page.now("notes")
+    link = page.wait("location.hash.startsWith('#text=') && location.hash")
+    phone = tab(link, (390, 844), has_fingers=True, address=served)
+    assert phone.now("[head.width, head.height]") == [256, 384], "of a phone held upright"
+    page.choose("change", text="many words " * 9), page.wait("chosen.text.startsWith('MANY')")
+    link = page.wait("location.hash.includes('size=512') && location.hash")
+    phone.go(link)
+    assert phone.now("[head.width, head.height]") == [512, 256], "if it has room for the text"
 
 
 def test_large(tab):

@@ -244,7 +244,21 @@ test("a broken text is none", () => assert.ok([sealed(text).slice(0, -1), `${sea
   .every((letters) => unsealed(letters) === null)));
 const [, most] = refusalOf("A".repeat(400), ...channel).match(/: (\d+) of them fit/).map(Number);
 test("a text that is too long is refused with the number that fits", () => assert.equal(["A".repeat(most), "A".repeat(most + 1)].map((one) => refusalOf(one, ...channel) === "").join(), "true,false"));
-test("a sign that the font does not have is refused", () => assert.ok(refusalOf("ж", ...channel).includes("ж")));
+test("a sign that the font does not have is refused", () => assert.ok(refusalOf("€", ...channel).includes("€")));
+test("an older link has its text", () => assert.equal(unsealed("IDU4A-ENc9D29apcDW"), "TIME TURNS ROUND"));
+const others = { "Привет, мир! Ёй": "ΠPИBET, MИP! EЙ", "Καλημέρα": "KAΛHMEPA", "Їжак": "IЖAK", "100 % sure; “ok” @#_*": '100 % SURE; "OK" @#_*' };
+for (const [typed, written] of Object.entries(others)) test(`${typed} is spelled, and kept by an address`, () => {
+  assert.equal(spelled(typed), written);
+  assert.ok(refusalOf(written, ...channel) === "" && unsealed(sealed(written)) === written);
+});
+test("no two signs look alike", () => {
+  const [, signs] = refusalOf("€", ...channel).match(/: it has (.*)\.$/);
+  const pictures = [...signs].map((sign) => {
+    const isIn = isInText(sign, 25, 34);
+    return Array.from({ length: 25 * 34 }, (_, at) => Number(isIn(at % 25, Math.floor(at / 25)) > 0)).join("");
+  });
+  assert.equal(new Set(pictures).size, signs.length, signs);
+});
 const isIn = isInText("HELLO", 600, 300), places = Array.from({ length: 180_000 }, (_, at) => [at % 600, Math.floor(at / 600)]).filter((place) => isIn(...place));
 for (const [way, k, middle] of [["across", 0, 300], ["down", 1, 150]]) test(`a text is in the middle ${way}`, () => {
   const [low, high] = [Math.min, Math.max].map((of) => places.reduce((found, place) => of(found, place[k]), middle));
@@ -262,6 +276,7 @@ test("one history of all that was done", () => {
   const acts = [() => experiment.stroke({ from: [30, 20], to: [40, 30], radius: 3, solid: true, end: true }), () => experiment.act("burst", (one) => dense(one, { at: [80, 30], radius: 6 })),
     () => experiment.flip([20, 20]), () => experiment.act("clear", cleared)];
   for (const act of acts) (kept.push(flow.cells.kept()), act());
+  const done = [...kept.slice(1), flow.cells.kept()];
   experiment.start({ starts: [{ ...start, seed: "2" }], state: "" });
   assert.ok(experiment.watched[0].flow !== flow, "a new start is another lattice");
   said.push(experiment.past.at(-1).what);
@@ -273,6 +288,14 @@ test("one history of all that was done", () => {
     assert.equal(flow.cells.differing(cells), 0, `${said.at(-1)} is undone to the last cell`);
   }
   assert.ok(said.join() === "start,clear,turn,burst,stroke" && !experiment.past.length, `the last thing is undone first: ${said}`);
+  for (const cells of done) {
+    experiment.redo();
+    assert.equal(flow.cells.differing(cells), 0, "and done again to the last cell");
+  }
+  experiment.redo();
+  assert.ok(experiment.watched[0].flow !== flow && !experiment.undone.length, "a start too");
+  experiment.undo();
+  assert.ok(experiment.watched[0].flow === flow && experiment.undone.length === 1, "which is undone again");
   experiment.act("burst", (one) => dense(one, { at: [80, 30], radius: 6 }));
   flow.advance(1);
   const before = flow.cells.kept();
