@@ -16,8 +16,8 @@ def plan(
     cores : int, optional
         By default those that this process may use, in a run of `side_by_side` its share of them.
     stages : int, optional
-        By default those of passes of equal length, as few as sixteen per core, one per 16 rows and
-        one per generation allow.
+        By default those of passes of equal length, as few as 64 in all, one per 16 rows and one per
+        generation allow.
 
     Returns
     -------
@@ -30,7 +30,7 @@ def plan(
     (63, 128, 4)
     """
     cores = cores or cores_of_call()
-    most = max(1, min(16 * cores, rows // 16, generations, MOST_STAGES))
+    most = max(1, min(MOST_STAGES, rows // 16, generations))
     even = -(-generations // max(1, -(-generations // most)))  # both divisions round up
     stages = stages or max(even, min(cores, most))
     return stages, CAPACITY, min(cores, stages)

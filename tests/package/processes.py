@@ -83,7 +83,7 @@ def test_the_program_is_found(tmp_path):
 
 
 def test_a_plan_is_chosen_from_the_cores_of_the_process():
-    plans = "1024 1000 1: 16 1, 1024 1000 4: 63 4, 1024 1000 8: 63 8, 1024 1000 64: 64 64"
+    plans = "1024 1000 1: 63 1, 1024 1000 4: 63 4, 1024 1000 8: 63 8, 1024 1000 64: 64 64"
     plans += ", 1024 16 4: 16 4, 1024 40 4: 40 4, 1024 65 4: 33 4, 1024 100 4: 50 4"
     plans += ", 256 100 4: 15 4, 24 100 4: 1 1, 9 1 4: 1 1, 1024 3 4: 3 3, 1024 0 4: 1 1"
     for known, _, plan in (text.partition(": ") for text in plans.split(", ")):
@@ -91,7 +91,7 @@ def test_a_plan_is_chosen_from_the_cores_of_the_process():
         assert fhpgas.plan(*map(int, known.split())) == (stages, 128, threads), known
     assert fhpgas.plan(24, 100, 4, stages=6) == (6, 128, 4)
     with mock.patch.object(os, "sched_getaffinity", lambda process: {5, 6}):
-        assert fhpgas.plan(1024, 1000) == (32, 128, 2)
+        assert fhpgas.plan(1024, 1000) == (63, 128, 2)
 
 
 def test_bars_count_the_parts_that_are_asked_for(tmp_path):

@@ -28,7 +28,7 @@ PAIRS = [  # words of the help and of FORMATS, whose numbers are equal
     (r"(0) is the feeder", r"Turn (0) is the \*\*feeder\*\*"),
     ("G generations need at least G workers", "so G is at most N"),
     (r"the default C is (128), and the default N at least T", r"at least T \|\n.* with `--threads T` (128) \|"),
-    (r"as few passes as (16) T stages, at most (64), allow", r"as few passes as\s+(16) T stages, at most (64), allow"),
+    (r"as few passes as (64) stages allow", r"as few passes as (64) stages allow"),
 ]  # fmt: skip
 
 

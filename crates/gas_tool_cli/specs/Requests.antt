@@ -34,9 +34,9 @@ IsGivenAt rows option (Some n) = IsNumberAt 32 rows option n
 abbrev pub IsNumberOr : ℕ → List Row → Text → ℕ → Type 0
 IsNumberOr default rows option n = (given : Option ℕ) × IsGivenAt rows option given × (n ≡ unwrap_or given default)
 
--- the stages of passes of equal length, as few as 16 stages per thread and 64 in all allow; at least one per thread
+-- the stages of passes of equal length, as few as 64 stages allow; at least one per thread
 abbrev pub even_stages : ℕ → ℕ → ℕ
-even_stages threads generations = max threads (div_ceil generations (div_ceil generations (min (16 * threads) 64)))
+even_stages threads generations = max threads (div_ceil generations (div_ceil generations 64))
 
 -- the number of stages if none is given: 4, or even passes, where threads count as 1 to 64, and no generation as one
 abbrev pub default_stages : Option ℕ → ℕ → ℕ

@@ -99,7 +99,7 @@ pub(crate) const CAPACITY: &str =
 pub(crate) const THREADS: &str = "\
 Threads that share the stages: 1 to N [default: N]. With --threads
 the default C is 128, and the default N at least T: it spreads G
-evenly over as few passes as 16 T stages, at most 64, allow";
+evenly over as few passes as 64 stages allow";
 
 pub(crate) const BLOCK_WIDTH: &str = "Columns of cells in a block: 1 to 4096";
 

@@ -35,16 +35,14 @@ struct PlanNumbers {
     generations: u64,
 }
 
-// The stages of passes of equal length, as few as 16 stages per thread and 64 in all allow. A thread
-// has at least one.
+// The stages of passes of equal length, as few as 64 stages allow. A thread has at least one.
 fn even_stages(threads: u32, generations: u64) -> u32
     requires some_threads { 1 ≤ threads }
     requires few_threads { threads ≤ 64 }
     requires some_generations { 1 ≤ generations }
     ensures { result ≡ even_stages threads generations }
 {
-    let most = (16 * threads).min(64);
-    let passes = generations.div_ceil(u64::from(most));
+    let passes = generations.div_ceil(64);
     threads.max(generations.div_ceil(passes) as u32)
 }
 
