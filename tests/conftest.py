@@ -14,6 +14,7 @@ collect_ignore = [] if HAS_SOURCES else OF_SOURCES
 
 def pytest_addoption(parser):
     parser.addoption("--scenes", type=int, default=3000, help="how many random scenes to read")
+    parser.addoption("--areas", type=int, default=100, help="how many areas to compare with C")
     parser.addoption("--mebibytes", type=float, default=1, help="how large the large texts are")
     parser.addoption("--keep", action="store_true", help="the notebooks keep what they show")
     parser.addoption("--wheel", help="a wheel for Linux, instead of those of what make built")

@@ -1,8 +1,9 @@
 """Compares the built program with C programs that compute the same lattices in other ways, on twenty
 random maps with obstacles: oracles/bytes.c, cell by cell from tables, for every gas, and
 oracles/bands.c, on bit planes cut into bands, for FHP-I. The gases, chiralities, sizes, first
-generations and plans take turns, and seeds are fixed. Then the longest line, on an area. All must
-print the same bytes."""
+generations and plans take turns, and seeds are fixed. Then many small areas of any width (--areas
+says how many), each with another gas, plan and obstacles, and the longest line. All must print the
+same bytes."""
 
 import itertools
 import random
@@ -66,6 +67,41 @@ def test_map(program, by_bytes, by_bands, number):
     if gas == "fhp1":
         is_alike = needs.printed([by_bands, generations, 3, word], start) == ours
         assert is_alike, f"by bands: {width} x {height}, {generations} generations, {plan}"
+
+
+def any_width(rng):
+    """Any number of columns, and often whole words or a few of them."""
+    most = rng.choice([64, 300, 4096])
+    return rng.choice([rng.randint(1, most), 64 * rng.randint(1, most // 64)])
+
+
+def any_rectangle(rng, width, height):
+    left, top = rng.randrange(width), rng.randrange(height)
+    return [left, top, rng.randint(1, width - left), rng.randint(1, min(3, height - top))]
+
+
+def any_plan(rng):
+    stages, threads = rng.randint(1, 64), rng.randint(1, 5)
+    some = ["--stages", stages, "--capacity", rng.choice([1, 2, 5, 128])]
+    return rng.choice([[], some, ["--threads", threads], ["--stages", stages, "--threads", 1]])
+
+
+def test_areas(program, by_bytes, pytestconfig):
+    for number in range(pytestconfig.getoption("--areas")):
+        rng = random.Random(number)
+        gas, chirality = rng.choice([*GASES]), rng.choice(CHIRALITIES)
+        width, height, seed = any_width(rng), rng.randint(1, 40), rng.randrange(2**40)
+        solid = [any_rectangle(rng, width, height) for _ in range(rng.choice([0, 0, 1, 4]))]
+        area = (
+            f'version = 2\ngas = "{gas}"\nchirality = "{chirality}"\nseed = {seed}\nwidth = {width}\n'
+            f"height = {height}\nrate = {rng.choice([50, 300, 700])}\nsolid = {solid}\n"
+        ).encode()
+        generations, plan = rng.randint(0, 90), any_plan(rng)
+        start = needs.printed([program, "run", "--generations", 0], area)
+        ours = needs.printed([program, "run", "--generations", generations, *plan], area)
+        word = seed if chirality == "seeded" else chirality
+        is_alike = needs.printed([by_bytes, generations, word, gas], start) == ours
+        assert is_alike, f"{number}: {area.decode()}{generations} generations, {plan}"
 
 
 @pytest.mark.alone
