@@ -23,7 +23,7 @@ def size(path):
 
 
 BUDGETS = [
-    (words, "README.md", 950),  # what is read first
+    (words, "README.md", 890),  # what is read first
     (words, "CONTRIBUTING.md", 1_400),
     (words, "docs/ANSWERS.md", 1_500),
     (words, "docs/ARCHITECTURE.md", 1_800),

@@ -1,22 +1,25 @@
 """Runs the commands of the documents as they are printed: a block marked `sh` must end with 0, and if
 the block after it is marked `text`, it must print that. The package is on the path. The blocks of a
 document follow one another in one folder. Those of FIRST are tried by the launcher too, as in a clone
-that has a plain build and no kit. Each message that docs/TROUBLE.md explains must stand in a source,
+that has a plain build and no kit. README's lines of Python must draw the picture below them. Each message that docs/TROUBLE.md explains must stand in a source,
 and each start of the page that LESSON and GUIDE name in the page's."""
 
+import importlib.metadata
 import os
 import pathlib
 import platform
 import re
 import shutil
 import subprocess
+import sys
 
 import needs
 import pytest
 
 PLAIN = needs.ROOT / "out/checked"
+README = needs.ROOT / "README.md"
 FIRST = "README.md", "GUIDE.md", "FORMATS.md"
-DOCUMENTS = [needs.ROOT / "README.md", *sorted((needs.ROOT / "docs").glob("*.md"))]
+DOCUMENTS = [README, *sorted((needs.ROOT / "docs").glob("*.md"))]
 SOURCES = [str(it.relative_to(needs.ROOT)) for it in (needs.ROOT / "crates").glob("*/src")]
 BLOCK = re.compile(r"^```(\w*)\n(.*?)^```$", re.M | re.S)
 
@@ -70,6 +73,19 @@ def with_launcher(room):
 def test_by_launcher(checked, room, name):
     document = next(it for it in DOCUMENTS if it.name == name)
     follow(document, room, with_launcher(room))
+
+
+def test_first_picture(program, room):
+    lines, name = re.search(
+        r"```python\n(.*?)```.*?images/(\w+\.png)", README.read_text(), re.S
+    ).groups()
+    known = os.environ | {"PYTHONPATH": str(needs.ROOT / "python")}
+    subprocess.run([sys.executable, "-c", lines], cwd=room, env=known, check=True)
+    if importlib.metadata.version("matplotlib") == needs.WANTED["matplotlib"]:
+        from matplotlib.testing.compare import compare_images
+
+        drawn, kept = room / name, needs.ROOT / "docs/images" / name
+        assert compare_images(str(kept), str(drawn), tol=1) is None
 
 
 def words_of_sources():

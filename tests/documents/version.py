@@ -12,16 +12,22 @@ import needs
 
 HOME = dict(re.findall(r"^([\w-]+): (.+)$", (needs.ROOT / "CITATION.cff").read_text(), re.M))
 NUMBER, DATE = HOME["version"], HOME.get("date-released", "unreleased")
-PLACES = {  # what is before and after the place, what --write may replace, and by what
-    "crates/gas_tool_cli/src/help.rt": ('VERSION: &str = "', " (", r"[\d.]+", NUMBER),
-    "python/fhpgas/__init__.py": ('__version__ = "', '"\n', r"[\d.]+", NUMBER),
-    "CHANGELOG.md": ("\n## ", "\n", r"[\d.]+, unreleased", f"{NUMBER}, {DATE}"),
-    "CONTRIBUTING.md": ("git clone ", " ", r"\S+", HOME.get("repository-code", "REPOSITORY")),
-}
+ADDRESS = HOME.get("repository-code")
+DOWNLOAD = "Download [this file](page/fhpgas.html), open it,"
+PAGE = f"Open [the page]({HOME['url']})" if "url" in HOME else DOWNLOAD
+CLONE = f"after `git clone {ADDRESS} fhpgas && cd fhpgas`" if ADDRESS else "in a clone"
+PLACES = [  # a file, what is before and after the place, what --write may replace, and by what
+    ("crates/gas_tool_cli/src/help.rt", 'VERSION: &str = "', " (", r"[\d.]+", NUMBER),
+    ("python/fhpgas/__init__.py", '__version__ = "', '"\n', r"[\d.]+", NUMBER),
+    ("CHANGELOG.md", "\n## ", "\n", r"[\d.]+, unreleased", f"{NUMBER}, {DATE}"),
+    ("CONTRIBUTING.md", "git clone ", " ", r"\S+", ADDRESS or "REPOSITORY"),
+    ("README.md", "\nThen, ", ":\n", r"in a clone|after `[^`]+`", CLONE),
+    ("README.md", "**In a browser.** ", " and draw an obstacle.", r".+", PAGE),
+]
 
 
 def test_places():
-    for name, (before, after, _, new) in PLACES.items():
+    for name, before, after, _, new in PLACES:
         assert before + new + after in (needs.ROOT / name).read_text(), name
 
 
@@ -33,7 +39,7 @@ def test_what_changelog_dates_has_a_tag():
 
 
 if __name__ == "__main__" and sys.argv[1:] == ["--write"]:
-    for name, (before, after, old, new) in PLACES.items():
-        path, place = needs.ROOT / name, re.escape(before) + old + re.escape(after)
+    for name, before, after, old, new in PLACES:
+        path, place = needs.ROOT / name, f"{re.escape(before)}(?:{old}){re.escape(after)}"
         wanted = before + new + after
         path.write_text(re.sub(place, lambda _: wanted, path.read_text(), 1))

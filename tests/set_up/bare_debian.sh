@@ -1,7 +1,8 @@
 #!/bin/bash
 # Runs a command in a clone of this repository on a bare Debian 12, which has the kit, and of Debian only what README asks for:
 #
-#   tests/set_up/bare_debian.sh ROOM make test    makes the folder ROOM by debootstrap, if it is not there, and runs the command as root
+#   tests/set_up/bare_debian.sh ROOM make test    makes the folder ROOM by debootstrap, if it is not there, types README's packages in it as
+#                                                 root, and runs the command
 #   tests/set_up/bare_debian.sh ROOM umount       takes this machine's devices and kit out of ROOM, which must be done before it is removed
 #
 # AS=student runs the command as that user, who has no root. KEPT=1 takes what the kit has proved here, KIT=no leaves the kit out. By hand, as
@@ -16,8 +17,11 @@ if [ "$1" = umount ]; then
     exit
 fi
 if [ ! -d "$room/home/student" ]; then
-    debootstrap --variant=minbase --include="$(grep -oPm 1 'apt-get install \K[a-z0-9 ]+' README.md | tr ' ' ,)" bookworm "$room" > /dev/null
+    debootstrap --variant=minbase bookworm "$room" > /dev/null
     cp /etc/resolv.conf /etc/hosts "$room/etc" # debootstrap makes neither, and a browser wants localhost
+    echo 'APT::Get::Assume-Yes "true";' > "$room/etc/apt/apt.conf.d/yes"
+    packages=$(sed -n "/^\`\`\`bash\$/,/^\`\`\`\$/ { /^\`\`\`/!p }" README.md)
+    DEBIAN_FRONTEND=noninteractive chroot "$room" bash -ec "apt-get update; $packages" > "$room/packages.log" 2>&1 < /dev/null
     chroot "$room" useradd -m student
 fi
 for folder in /proc /sys /dev $kit ${KEPT:+"$kit-kept"}; do
@@ -27,4 +31,4 @@ done
 [ -z "$kit" ] || ln -sf "$kit/bin/rt" "$room/usr/local/bin/rt"
 home=$(chroot "$room" getent passwd "$user" | cut -d: -f6)
 [ -d "$room$home/fhpgas" ] || { git clone -q . "$room$home/fhpgas" && chroot "$room" chown -R "$user:" "$home/fhpgas"; }
-chroot "$room" su - "$user" -c "cd fhpgas && $(printf '%q ' "$@")"
+chroot "$room" su - "$user" -s /bin/bash -c "cd fhpgas && $(printf '%q ' "$@")"
