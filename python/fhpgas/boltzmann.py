@@ -16,11 +16,12 @@ from typing import Any
 import numpy as np
 from numpy.typing import NDArray
 
-from .arrays import Floats, Ints, array_of
+from .arrays import Floats, array_of
 from .fault import Fault, integer, real
 from .fields import equilibrium
 from .gas_table import CHIRALITIES, TRIPLES
 from .gases import STATES, TOO_FEW, AnyGas, Chirality, Gas, chirality_named, gas_named
+from .streaming import streamed
 
 
 def collision_matrix(gas: AnyGas, filling: Any, chirality: Chirality = "seeded") -> Floats:
@@ -175,21 +176,9 @@ class Flow:
             raise Fault(f"a gas without walls has an even number of rows, not {len(self.solid)}")
         collide = (change := self.gas.changes(chirality)).any(1)
         self._full, self._change = self.gas.bits[collide] > 0, change[collide]
-        self._sources = self._streaming(has_walls)
-
-    def _streaming(self, has_walls: bool) -> Ints:
-        """Where, in all chances one after the other, the chance of a direction of a cell streams
-        from: the neighbour, or if that is solid the opposite direction of the cell itself."""
-        rows, columns = self.solid.shape
-        i, y, x = np.indices((self.gas.directions, rows, columns))
-        back = self.gas.opposite[i]
-        right, down = np.moveaxis(self.gas.steps[y % 2, back], -1, 0)
-        row, column = (y + down) % rows, (x + right) % columns
-        is_outside = has_walls & (row != y + down)
-        bounces = ~self.solid[y, x] & (is_outside | self.solid[row, column])
-        stays = bounces | self.solid[y, x]
-        source = np.where(bounces, back, i), np.where(stays, y, row), np.where(stays, x, column)
-        return np.ravel_multi_index(source, i.shape)
+        places = np.arange(self.gas.directions * self.solid.size)
+        places = places.reshape(-1, *self.solid.shape)
+        self._sources = streamed(self.gas, self.solid, places, has_walls)
 
     def at(self, filling: Any, east: Any = 0.0, north: Any = 0.0) -> Floats:
         """The chances at equilibrium, for a filling and a velocity that numpy spreads over the

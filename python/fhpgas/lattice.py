@@ -7,7 +7,7 @@ from typing import Any, TypeAlias
 
 import numpy as np
 
-from . import drive, engine, fields, forms, limits, long_runs
+from . import drive, engine, fields, forms, limits, long_runs, streaming
 from .arrays import Array, Ints, Mask, States, Sums, Words, array_of, mask, read_only
 from .blocks import Blocks, Value, read_table
 from .cells import CODES, cells_of, codes_of, lines_of, parts_of
@@ -384,7 +384,7 @@ class Lattice(Value):
         after = self.gas.collisions("right" if self.chirality == "right" else "left")[self.states]
         return self.replace(states=self.gas.turned[after], chirality=OTHER[self.chirality])
 
-    driven = drive.driven
+    collided, driven = streaming.collided, drive.driven
     every, long_run, resume = long_runs.every, long_runs.long_run, long_runs.resume
 
 

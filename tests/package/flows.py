@@ -67,6 +67,34 @@ def test_a_reversed_run_comes_back_bit_for_bit():
         assert np.count_nonzero(late.states != start.states) > 1000
 
 
+def moved(gas, states, solid):
+    """The states after their particles moved one by one, by the places of the cells."""
+    after, (rows, columns) = np.zeros_like(states), states.shape
+    for y, x in np.argwhere(states):
+        for i in np.flatnonzero(states[y, x] >> np.arange(gas.directions) & 1):
+            (east, _), row = gas.velocities[i], y - gas.momenta[i, 1]
+            column = round(x + gas.shift * (y % 2) + east - gas.shift * (row % 2)) % columns
+            if row in (-1, rows) or solid[row, column]:
+                after[y, x] |= 1 << gas.opposite[i]
+            else:
+                after[row, column] |= 1 << i
+    return after
+
+
+@pytest.mark.parametrize("side", ("left", "right", "seeded"))
+@pytest.mark.parametrize("gas", GASES)
+def test_the_collided_state_moves_on_to_the_next_generation(gas, side):
+    """Between walls and past an obstacle, and in each cell it is one of the rules' two states."""
+    start = wind((64, 47), gas, side).run(3)
+    found, tables = start.collided(), map(start.gas.collisions, ("left", "right"))
+    is_left, is_right = (found == table[start.states] for table in tables)
+    assert start.solid.any() and (found != start.states).any()
+    assert (moved(start.gas, found, start.solid) == start.run(1).states).all()
+    assert (is_left | is_right).all()
+    assert is_left.all() == (side == "left" or gas == "hpp")
+    assert is_right.all() == (side == "right" or gas == "hpp")
+
+
 def test_walls_and_obstacles_receive_what_the_gas_loses():
     """All of it, in every generation, and the staggered momenta stay as they are."""
     for gas in GASES:
