@@ -24,7 +24,7 @@ def size(path):
 
 BUDGETS = [
     (words, "README.md", 890),  # what is read first
-    (words, "CONTRIBUTING.md", 1_400),
+    (words, "CONTRIBUTING.md", 1_430),
     (words, "docs/ANSWERS.md", 1_500),
     (words, "docs/ARCHITECTURE.md", 1_800),
     (words, "docs/DECISIONS.md", 2_700),
@@ -33,7 +33,7 @@ BUDGETS = [
     (words, "docs/GLOSSARY.md", 650),
     (words, "docs/GUIDE.md", 2_200),
     (words, "docs/LESSON.md", 480),  # a sheet
-    (words, "docs/LIBRARY.md", 650),
+    (words, "docs/LIBRARY.md", 630),
     (words, "docs/NOTICES.md", 250),
     (words, "docs/PERFORMANCE.md", 950),
     (words, "docs/PHYSICS.md", 1_750),

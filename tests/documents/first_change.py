@@ -11,8 +11,10 @@ import needs
 import pytest
 
 pytestmark = pytest.mark.alone
+DEFINED = re.compile(r"```antt\n(.*?)\n *```", re.S)
 DIFF = needs.ROOT / "docs/first_change.diff"
 PAGE = (needs.ROOT / "CONTRIBUTING.md").read_text()
+DEFINITION = [it.strip() for it in DEFINED.search(PAGE)[1].split("\n")]
 QUOTED = [it.strip() for it in re.search(r"\n( */// .*?\n *})\n", PAGE, re.S)[1].split("\n")]
 PACKED = (
     "crates",
@@ -61,9 +63,9 @@ def test_it_is_proved_as_it_is_laid_out(told, changed):
     needs.printed(["git", "apply", "--reverse", "--check", DIFF], cwd=changed)
 
 
-def test_page_quotes_the_contract():
+def test_page_quotes_definition_and_contract():
     added = [it[1:].strip() for it in DIFF.read_text().split("\n") if it.startswith("+")]
-    assert {*QUOTED[:3]} <= {*added}
+    assert {*DEFINITION, *QUOTED[:3]} <= {*added}
 
 
 @pytest.mark.parametrize(
