@@ -46,7 +46,7 @@ def refuse_skip(report):
 
 @pytest.fixture(scope="session")
 def program():
-    """The path of the program that FHPGAS names or rt left."""
+    """The path of the program that FHPGAS names, rt left or the launcher takes."""
     return needs.built_program()
 
 
