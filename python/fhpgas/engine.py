@@ -13,6 +13,7 @@ from __future__ import annotations
 
 import collections
 import concurrent.futures
+import contextlib
 import ctypes
 import functools
 import itertools
@@ -134,8 +135,10 @@ def advanced(
 
     tops = [rows * k // number // 2 * 2 for k in range(number)] + [rows]
     strips, starts = [*itertools.pairwise(tops)], range(0, generations, step)
-    with concurrent.futures.ThreadPoolExecutor(number) as pool:
-        each: Any = map if number == 1 else pool.map
+    with contextlib.ExitStack() as ends:
+        each: Any = map
+        if number > 1:
+            each = ends.enter_context(concurrent.futures.ThreadPoolExecutor(number)).map
         for done in counted(starts, len(starts), "part", progress):
             group.get().go_on()
             collections.deque(each(functools.partial(advance, done=done), strips), 0)

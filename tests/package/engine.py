@@ -129,7 +129,7 @@ def test_strips_are_the_whole():
             assert lattice.run(generations, workers) == alone
             sums = engine.sums(lattice, 7, 5)
         np.testing.assert_array_equal(sums, engine.sums(lattice, 7, 5))
-    assert {call.args[0] for call in pools.call_args_list} == {*range(1, 9)}
+    assert {call.args[0] for call in pools.call_args_list} == {*range(2, 9)}
 
 
 def test_sums_are_those_of_the_program():
