@@ -5,13 +5,14 @@ At equilibrium direction i of a cell contains a particle with the chance N_i = 1
 q.c_i)), where c_i is its velocity. The sum of N_i must be b d, and the sum of N_i c_i must be b d u
 (b directions, filling d, velocity u), which determines h and q (U. Frisch and others, Complex
 Systems 1 (1987) 649)."""
+import functools
 import reprlib
 from collections.abc import Callable, Iterable
 from typing import TYPE_CHECKING, Any, NamedTuple, TypeAlias
 
 import numpy as np
 
-from .arrays import Array, Floats, States, Words, array_of
+from .arrays import Array, Floats, States, Words, array_of, read_only
 from .fault import Fault, integer, seed_of
 from .gases import AnyGas, Gas, gas_named
 
@@ -182,40 +183,44 @@ def _impossible(gas: Gas, d: Array, u: Array, v: Array) -> Fault:
 
 @np.errstate(all="ignore")  # an impossible velocity leaves the floats, and is refused
 def _solved(gas: Gas, d: Floats, u: Floats, v: Floats) -> Floats:
-    """Newton's method for (h, q) of all cells, from their values at a small velocity, with steps of
-    at most 2 so that it does not overshoot. Sums go direction by direction, without BLAS, so every
-    machine rounds alike."""
-    wanted = gas.directions * d, gas.directions * d * u, gas.directions * d * v
+    """Newton's method for (h, q) of all cells [cells], from their values at a small velocity, with
+    steps of at most 2 so that it does not overshoot. Sums go direction by direction, without BLAS,
+    so every machine rounds alike."""
+    x, y = gas.velocities.T[..., None]
+    weights = np.stack([np.ones_like(x), x, y, x * x, x * y, y * y], 1)
+    wanted = np.stack([gas.directions * d, gas.directions * d * u, gas.directions * d * v])
     square, is_done = float((gas.velocities[:, 0] ** 2).mean()), False
-    h, qx, qy = np.log(1 / d - 1), -u / square / (1 - d), -v / square / (1 - d)
+    hq = np.stack([np.log(1 / d - 1), -u / square / (1 - d), -v / square / (1 - d)])
     for _ in range(200):
-        powers = (np.minimum(500.0, h + qx * x + qy * y) for x, y in gas.velocities)
-        chances = np.stack([1 / (1 + np.exp(power)) for power in powers])
-        s, sx, sy = (-part for part in wanted)
-        matrix = np.zeros((6, *d.shape))
-        for n, (x, y) in zip(chances, gas.velocities):
-            s, sx, sy = s + n, sx + n * x, sy + n * y
-            matrix += [n * (1 - n) * weight for weight in (1, x, y, x * x, x * y, y * y)]
+        chances = 1 / (1 + np.exp(np.minimum(500.0, hq[0] + hq[1] * x + hq[2] * y)))
         if is_done:
             return chances
+        missing, matrix = -wanted, np.zeros((6, len(d)))
+        for n, slope, weight in zip(chances, chances * (1 - chances), weights):
+            missing += n * weight[:3]
+            matrix += slope * weight
         # then one more step makes it exact
-        is_done = max(np.abs(part).max() for part in (s, sx, sy)) < 1e-11
-        steps = _divided((s, sx, sy), matrix)
-        share = np.minimum(1, 2 / np.maximum(1e-300, np.abs(steps).max(0)))
-        h, qx, qy = h + share * steps[0], qx + share * steps[1], qy + share * steps[2]
-        if (lost := ~(np.abs(h) + np.abs(qx) + np.abs(qy) < 200)).any():
+        is_done = np.abs(missing).max() < 1e-11
+        steps = _divided(missing, matrix)
+        hq += np.minimum(1, 2 / np.maximum(1e-300, np.abs(steps).max(0))) * steps
+        if (lost := ~(np.abs(hq).sum(0) < 200)).any():
             raise _impossible(gas, d[lost], u[lost], v[lost])
     raise _impossible(gas, d, u, v)
 
 
-def _divided(right: tuple[Floats, Floats, Floats], matrix: Floats) -> Floats:
+def _divided(right: Floats, matrix: Floats) -> Floats:
     """The solutions [3, cells] of three linear equations whose symmetric matrix has the rows (a, b,
-    c), (b, d, e), (c, e, f)."""
-    (x, y, z), (a, b, c, d, e, f) = right, matrix
-    top = d * f - e * e, c * e - b * f, b * e - c * d
-    rows = top, (top[1], a * f - c * c, b * c - a * e), (top[2], b * c - a * e, a * d - b * b)
-    whole = a * top[0] + b * top[1] + c * top[2]
-    return np.stack([(u * x + v * y + w * z) / whole for u, v, w in rows])
+    c), (b, d, e), (c, e, f) of `matrix` [6, cells], by its minors in this order."""
+    minors = matrix[[3, 2, 1, 0, 1, 0]] * matrix[[5, 4, 4, 5, 2, 3]]
+    minors -= matrix[[4, 1, 2, 2, 0, 1]] * matrix[[4, 5, 3, 2, 4, 1]]
+    (x, y, z), (u, v, w) = right, (minors[[0, 1, 2]], minors[[1, 3, 4]], minors[[2, 4, 5]])
+    return (u * x + v * y + w * z) / np.asarray(sum(matrix[:3] * minors[:3]))
+
+
+@functools.lru_cache(64)
+def _uniform(gas: Gas, filling: float, east: float, north: float) -> Floats:
+    """The chances of a gas that is alike everywhere, which an ensemble draws from over and over."""
+    return read_only(equilibrium(gas, filling, east, north))
 
 
 def lots_of(call: str, seed: int) -> np.random.PCG64:
@@ -249,7 +254,11 @@ def drawn(
     flat = [field.reshape((1,) * (2 - field.ndim) + field.shape) for field in fields]
     spread, height = np.broadcast_shapes(*(field.shape for field in flat)), max(1, CACHED // words)
     whole = gas.directions, rows, spread[1]
-    profile = np.broadcast_to(equilibrium(gas, *flat), whole) if 1 in spread else None
+    profile = None
+    if spread == (1, 1):
+        profile = np.broadcast_to(_uniform(gas, *map(float, flat))[:, None, None], whole)
+    elif 1 in spread:
+        profile = np.broadcast_to(equilibrium(gas, *flat), whole)
     source, states = np.random.PCG64(seed), np.zeros(shape, np.uint8)
     source.advance(top_row * gas.directions * line + skipped)
     for top in range(0, rows, height):
@@ -260,8 +269,9 @@ def drawn(
         limits = limits.astype(np.uint16 if limits.max() < 65536 else np.int32)
         lots = _lines_of(source, len(part) * gas.directions, taken, line - taken)
         lots = lots.astype("<u8", copy=False).view("<u2").reshape(len(part), gas.directions, -1)
-        for i, limit in enumerate(limits):
-            part |= (lots[:, i, offset : offset + columns] < limit).view(np.uint8) << i
+        for i in reversed(range(gas.directions)):
+            part += part
+            part |= (lots[:, i, offset : offset + columns] < limits[i]).view(np.uint8)
     return states
 
 
