@@ -54,7 +54,7 @@ pub fn words_of_a_table()
         ∷ codes "--block-height" ∷ codes "9" ∷ [])) in
         (asked (Coarse 3 128 3 (Some 1) 8 9) → ⊥) × (asked (Coarse 4 2 3 None 9 9) → ⊥)
         × (asked (Coarse 4 2 3 None 8 8) → ⊥) × (asked (Coarse 5 2 3 None 8 9) → ⊥)
-        × (asked (Run 4 2 3 None) → ⊥) }
+        × (asked (Run 4 2 3 None) → ⊥) × (asked (Coarse 3 128 3 (Some 3) 8 9) → ⊥) }
 {}
 
 /// Words of a replay of two turns. They ask neither for other turns nor for another plan.
@@ -69,6 +69,17 @@ pub fn words_of_a_replay()
         (asked (Replay 5 7 3 (0 ∷ 1 ∷ [])) → ⊥) × (asked (Replay 5 7 3 (1 ∷ [])) → ⊥)
         × (asked (Replay 5 7 3 (5 ∷ [])) → ⊥) × (asked (Replay 4 7 3 (1 ∷ 0 ∷ [])) → ⊥)
         × (asked (Replay 5 2 3 (1 ∷ 0 ∷ [])) → ⊥) × (asked (Replay 5 7 5 (1 ∷ 0 ∷ [])) → ⊥) }
+{}
+
+/// Words of a replay that give its generations alone. They ask neither for a turn nor for the plan of
+/// a run of three threads.
+pub fn words_of_a_replay_without_turns()
+    ensures asked { IsRequestOf (subcommand_of program_app
+        (codes "fhpgas" ∷ codes "replay" ∷ codes "--generations" ∷ codes "3" ∷ []))
+        (Replay 4 2 3 []) }
+    ensures not_asked { let asked = IsRequestOf (subcommand_of program_app
+        (codes "fhpgas" ∷ codes "replay" ∷ codes "--generations" ∷ codes "3" ∷ [])) in
+        (asked (Replay 4 2 3 (1 ∷ [])) → ⊥) × (asked (Replay 3 128 3 []) → ⊥) }
 {}
 
 /// Numbers out of range, and words without a subcommand, make no request. Nor do the options of one

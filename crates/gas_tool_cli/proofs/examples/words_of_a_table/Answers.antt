@@ -39,4 +39,5 @@ returns-clause-not_asked c = (
   other _ (λ e. apart 9 8 refl cc),
   other _ (λ e. apart 4 5 refl cc),
   other _ (λ e. absurd cc),
+  other _ (λ e. absurd cc),
 )
