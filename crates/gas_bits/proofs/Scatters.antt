@@ -4,7 +4,7 @@ use mathlib.Core.Bool.{and-false, and-true}
 use Rattle.std.proofs.lemmas.Nat.{pow_pos}
 use Rattle.gas_geom.specs.Gas.{holds}
 use Rattle.gas_geom.specs.Lanes.{lanes_hold}
-use Rattle.gas_geom.specs.Planes.{set_in}
+use Rattle.gas_geom.specs.Planes.{set_in, set_at}
 use Rattle.gas_geom.proofs.Holds.{holds-zero, set_of-same}
 use Rattle.gas_bits.specs.Words.{bit}
 use Rattle.gas_bits.specs.Planes.{has, state, four_has}
@@ -27,6 +27,14 @@ pub four-written : (new old : List ℕ) (n d y start : ℕ) (planes : List (List
     → state new n d y ≡ (if inside then (if solid then 0 else set_in lanes_hold (replicate 4 0) d planes (y - start)) else state old n d y)
 four-written new old n d y start planes solid true each = state-masked new n d y (λ i. four_has planes i (y - start)) solid each
 four-written new old n d y start planes solid false each = state-same new old n d y each
+
+-- the same after one word of each direction was written
+pub word-written : (new old : List ℕ) (n d y : ℕ) (planes : List ℕ) (inside : Bool)
+    → ((i : ℕ) → i < d → has new n i y ≡ (if inside then holds (get_or planes i 0) (y % 64) && not (holds 0 (y % 64)) else has old n i y))
+    → state new n d y ≡ (if inside then set_at d planes (y % 64) else state old n d y)
+word-written new old n d y planes true each =
+    state-masked new n d y (λ i. holds (get_or planes i 0) (y % 64)) false (λ i h. each i h ∙ ap (λ s. holds (get_or planes i 0) (y % 64) && not s) (holds-zero (y % 64)))
+word-written new old n d y planes false each = state-same new old n d y each
 
 -- bit b of lane l of four words, as that of a cell
 pub lane-bit : (four words : List ℕ) (j x : ℕ) → 64 * j ≤ x → ((l : ℕ) → l < 4 → get_or four l 0 ≡ get_or words (j + l) 0) → x < 64 * j + 256

@@ -5,12 +5,13 @@ ghost use Rattle.gas_geom.specs.declared.moves.Move.TheVariants.{Back, Stay, On}
 ghost use Rattle.gas_geom.specs.Moves.{column_after};
 ghost use Rattle.gas_geom.specs.Gas.{holds};
 ghost use Rattle.gas_bits.specs.Words.{words_in, bit};
-ghost use Rattle.gas_bits.specs.Shift.{AreStreamed, IsPlace};
+ghost use Rattle.gas_bits.specs.Shift.{AreStreamed, IsPlace, streamed_cell};
 ghost use Rattle.gas_bits.specs.Inner.Streamed.{AreBeside, AreFourBeside};
 
 use crate::plane::Incoming;
-use crate::word::{from_east, with_last_bit_on_top, words_for};
+use crate::word::{from_east, from_west, with_last_bit_on_top, words_for};
 use gas_geom::moves::Move;
+use gas_geom::word::Word;
 use std::simd::prelude::*;
 
 // The words of a row of fewer than four words, with zeros past its end. Not inlined, since few rows are
@@ -110,8 +111,13 @@ fn east_of(words: &[u64], here: u64x4, width: u32, j: usize, inner: bool) -> u64
     let [_, two, three, four] = here.to_array();
     let after = u64x4::from_array([two, three, four, 0]);
     let mut beside = four_from_east(here, after).to_array();
-    let end = (n - 1).min(3);
-    beside[end] = east_of_last(words, width);
+    let last = east_of_last(words, width);
+    if n >= 4 {
+        // At a place that it does not know a compiler would write into memory.
+        let [one, two, three, _] = beside;
+        return u64x4::from_array([one, two, three, last]);
+    }
+    beside[(n - 1).min(3)] = last;
     u64x4::from_array(beside)
 }
 
@@ -144,16 +150,66 @@ fn four_beside(along: Move, words: &[u64], width: u32, j: usize, inner: bool) ->
     }
 }
 
+// The neighbours of the cells of word `j` to which a move leads.
+#[inline(always)]
+fn word_beside(along: Move, words: &[u64], width: u32, j: usize) -> u64
+    requires some_cells { 1 ≤ width }
+    requires few_cells { width ≤ 65536 }
+    requires long { length words.now ≡ words_in width }
+    requires within { j < words_in width }
+    ensures { AreBeside words.now width along j result }
+{
+    match along {
+        Move::Back => from_west(words[j], word_before(words, width, j)),
+        Move::Stay => words[j],
+        Move::On => word_east_of(words, width, j),
+    }
+}
+
+// A word whose top bit is the cell west of word `j`. West of a row's first cell lies its last.
+#[inline(always)]
+fn word_before(words: &[u64], width: u32, j: usize) -> u64
+    requires some_cells { 1 ≤ width }
+    requires few_cells { width ≤ 65536 }
+    requires long { length words.now ≡ words_in width }
+    requires within { j < words_in width }
+    ensures { holds result 63 ≡ bit words.now (column_after width (64 * j) Back) }
+{
+    if j == 0 {
+        with_last_bit_on_top(words[words.len() - 1], (width - 1) % 64)
+    } else {
+        words[j - 1]
+    }
+}
+
+// The eastern neighbours of the cells of word `j`.
+#[inline(always)]
+fn word_east_of(words: &[u64], width: u32, j: usize) -> u64
+    requires some_cells { 1 ≤ width }
+    requires few_cells { width ≤ 65536 }
+    requires long { length words.now ≡ words_in width }
+    requires within { j < words_in width }
+    ensures { AreBeside words.now width On j result }
+{
+    if j + 1 < words.len() {
+        from_east(words[j], 63, words[j + 1])
+    } else {
+        east_of_last(words, width)
+    }
+}
+
 // What cells hold after streaming: what arrives, but the opposite direction if the cell that it would
 // come from is solid (`blocked`: bounce-back), and nothing at solid cells.
 #[inline(always)]
-fn bounce(arriving: u64x4, blocked: u64x4, opposite: u64x4, solid: u64x4) -> u64x4
-    ensures { (l b : ℕ) → l < 4 → b < 64 → holds (slice_index result l) b
-        ≡ (if holds (slice_index solid l) b then false
-        else if holds (slice_index blocked l) b then holds (slice_index opposite l) b
-        else holds (slice_index arriving l) b) }
+fn bounce<W: Word>(arriving: W, blocked: W, opposite: W, solid: W) -> W
+    ensures { (c : ℕ) → c < W.cells → W.bit result c
+        ≡ (if W.bit solid c then false
+        else if W.bit blocked c then W.bit opposite c
+        else W.bit arriving c) }
 {
-    ((arriving & !blocked) | (blocked & opposite)) & !solid
+    let kept = arriving.and(blocked.not());
+    let sent_back = blocked.and(opposite);
+    kept.or(sent_back).and(solid.not())
 }
 
 /// Words `j` to `j + 3` of a direction after streaming. The move leads along the row to where the
@@ -176,5 +232,25 @@ pub fn stream_four<'a>(along: Move, incoming: &Incoming<'a>, j: usize, inner: bo
         blocked,
         opposite,
         four_at(incoming.solid_here, n, j),
+    )
+}
+
+/// Word `j` of a direction after streaming. Bits past the width are left open.
+#[inline(always)]
+pub fn stream_word<'a>(along: Move, incoming: &Incoming<'a>, j: usize) -> u64
+    requires within { j < words_in incoming.now.width }
+    ensures streamed { (b : ℕ) → b < 64 → 64 * j + b < incoming.now.width →
+        holds result b ≡ streamed_cell incoming.now along (64 * j + b) }
+{
+    let arriving = word_beside(along, incoming.plane, incoming.width, j);
+    if incoming.all_fluid {
+        return arriving;
+    }
+    let blocked = word_beside(along, incoming.solid_there, incoming.width, j);
+    bounce(
+        arriving,
+        blocked,
+        incoming.opposite_here[j],
+        incoming.solid_here[j],
     )
 }

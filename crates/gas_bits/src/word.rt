@@ -11,7 +11,7 @@ pub fn words_for(width: u32) -> usize
     requires few_cells { width ≤ 65536 }
     ensures value { result ≡ words_in width }
 {
-    (width as usize).div_ceil(64)
+    (width as usize + 63) / 64
 }
 
 /// Whether bit `bit`, 0 to 63, is 1.
@@ -59,6 +59,15 @@ pub(crate) fn clear_bits(word: u64, mask: u64) -> u64
     ensures { (b : ℕ) → b < 64 → holds result b ≡ (holds word b && not (holds mask b)) }
 {
     word & !mask
+}
+
+/// The western neighbours of the cells of a word. That of the first one is bit 63 of `before`.
+#[inline(always)]
+pub(crate) fn from_west(word: u64, before: u64) -> u64
+    ensures { (b : ℕ) → b < 64 → holds result b
+        ≡ (if b == 0 then holds before 63 else holds word (b - 1)) }
+{
+    (word << 1) | (before >> 63)
 }
 
 /// The eastern neighbours of the cells of a word up to bit `last`. That of the last one is bit 0 of

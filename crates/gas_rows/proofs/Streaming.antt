@@ -23,6 +23,7 @@ use Rattle.gas_rows.specs.Planes.{cells_of}
 use Rattle.gas_rows.specs.Streaming.{AreRowsAbout, IsRowAt, AreWordsAbout}
 use Rattle.gas_rows.specs.declared.stream.Neighbourhood.{Neighbourhood}
 use Rattle.gas_rows.specs.Inner.Beside.{row_beside}
+use Rattle.gas_rows.specs.Inner.Streaming.{AreFluidRowsAbout}
 use Rattle.gas_rows.proofs.Cells.{holds-cells}
 
 -- what a streamed cell holds
@@ -116,6 +117,17 @@ pub beside-solid : (dirs : ℕ) (c : ChannelModel) (at : ℕ → ℕ → ℕ) (n
 beside-solid dirs c at n Back x about lt = about.solid_above x lt
 beside-solid dirs c at n Stay x about lt = about.solid_middle x lt
 beside-solid dirs c at n On x about lt = about.solid_below x lt
+
+-- where no cell of the three rows is solid
+pub fluid-about : (dirs : ℕ) (c : ChannelModel) (at : ℕ → ℕ → ℕ) (n : Neighbourhood) → n.all_fluid ≡ true → AreWordsAbout dirs c at n
+    → AreFluidRowsAbout dirs c at n.width n.y n.above.now n.middle.now n.below.now
+fluid-about dirs c at n fluid about = record {
+  wide = about.wide;
+  rows = about.rows;
+  fluid_above = λ x h. sym (about.solid_above x h) ∙ n.fluid_above fluid x;
+  fluid_middle = λ x h. sym (about.solid_middle x h) ∙ n.fluid_middle fluid x;
+  fluid_below = λ x h. sym (about.solid_below x h) ∙ n.fluid_below fluid x;
+}
 
 pub beside-fluid : (m : Move) (a b c : List ℕ) (x : ℕ) → bit a x ≡ false → bit b x ≡ false → bit c x ≡ false → bit (row_beside m a b c) x ≡ false
 beside-fluid Back a b c x ea eb ec = ea

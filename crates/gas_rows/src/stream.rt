@@ -4,12 +4,15 @@ ghost use Rattle.std.specs.Prelude.{◌≡◌, ◌+◌, ◌-◌, ◌*◌, ◌/�
 ghost use Rattle.gas_geom.specs.declared.size.TheConstants.{MOST_SIDE};
 ghost use Rattle.gas_bits.specs.Words.{words_in, bit};
 ghost use Rattle.gas_bits.specs.Shift.{IsPlace};
+ghost use Rattle.gas_geom.specs.Channel.{ChannelModel};
+ghost use Rattle.gas_geom.specs.Laws.Steps.{is_odd};
 ghost use Rattle.gas_rows.specs.Inner.Beside.{row_beside};
+ghost use Rattle.gas_rows.specs.Inner.Planes.{IsClear};
 
 use crate::collision::directions;
 use gas_bits::plane::Incoming;
-use gas_bits::planes::{clear_planes_past, write_four_at};
-use gas_bits::stream::{four_at, stream_four};
+use gas_bits::planes::{clear_planes_past, write_four_at, write_planes_at};
+use gas_bits::stream::{four_at, stream_four, stream_word};
 use gas_bits::word::words_for;
 use gas_geom::gas::Gas;
 use gas_geom::moves::{Move, moves};
@@ -65,25 +68,92 @@ fn plane(words: &[u64], dirs: usize, i: u32, words_each: usize) -> &[u64]
     &words[start..start + words_each]
 }
 
+static ZEROS: [u64; 1024] = [0; 1024];
+
+// The solid cells of a row that has none.
+#[inline(always)]
+fn no_solid(words_each: usize) -> &'static [u64]
+    requires few_words { words_each ≤ words_in MOST_SIDE }
+    ensures long { length result.now ≡ words_each }
+    ensures none { (x : ℕ) → bit result.now x ≡ false }
+{
+    &ZEROS[..words_each]
+}
+
+// The kinds of rows. A compiler puts a function with one caller into it however long it is, and then knows there
+// what the caller knows. So there is a copy of each long function for each `KIND`.
+const FLUID_ODD_COLLIDES: u8 = 0;
+const FLUID_ODD: u8 = 1;
+const FLUID_EVEN_COLLIDES: u8 = 2;
+const FLUID_EVEN: u8 = 3;
+const SOLID_ODD: u8 = 4;
+const SOLID_EVEN: u8 = 5;
+
 // What is the same for all words of a row.
 #[derive(Clone, Copy)]
 struct Kernel<'a, 'b> {
     rows: Neighbourhood<'a>,
+    odd: bool,
     // The random bits of the collision that follows, if one does.
     chi: &'b [u64],
     collides: bool,
+    ghost parity: { odd ≡ is_odd rows.y },
     ghost chi_long: { IsTrue collides → length chi.now ≡ words_in rows.width },
 }
 
-// A compiler puts a function with one caller into it however long it is, and then knows there what the caller
-// knows. So there is a `COPY` of each long function for each arm of `advance`.
 impl<'a, 'b> Kernel<'a, 'b> {
-    ghost use Rattle.gas_geom.specs.Channel.{ChannelModel};
     ghost use Rattle.gas_geom.specs.Lattice.{streamed};
     ghost use Rattle.gas_geom.specs.Gas.{holds};
     ghost use Rattle.gas_bits.specs.Planes.{four_has, state};
     ghost use Rattle.gas_rows.specs.Streaming.{AreWordsAbout, AreRowsLong};
-    ghost use Rattle.gas_rows.specs.Inner.Streaming.{advanced_state, AreAdvanced, AreEndsAdvanced};
+    ghost use Rattle.gas_bits.specs.Shift.{streamed_cell};
+    ghost use Rattle.gas_rows.specs.Inner.Streaming.{AreAdvanced, AreEndsAdvanced, IsAdvanced};
+
+    // What decides which particles arrive in direction `i`, and the move along the row to where they come from.
+    #[inline(always)]
+    fn incoming<G: Gas>(&self, i: u32) -> (Move, Incoming<'a>)
+        requires rows { AreRowsLong G.rules.dirs self.now.rows }
+        requires direction { i < G.rules.dirs }
+        ensures wide { result.1.width ≡ self.now.rows.width }
+        ensures streamed { (channel : ChannelModel) (at : ℕ → ℕ → ℕ) →
+            AreWordsAbout G.rules.dirs channel at self.now.rows → (x : ℕ) → x < channel.width →
+            streamed_cell result.1 result.0 x ≡ holds (streamed G.rules channel at x self.now.rows.y) i }
+    {
+        let rows = self.rows;
+        let dirs = directions::<G>();
+        let words_each = words_for(rows.width);
+        let opposite = G::opposite(i);
+        let (along, down) = moves::<G>(opposite, self.odd);
+        let from = row_beside(down, rows.above, rows.middle, rows.below);
+        let solid_there = row_beside(down, rows.solid_above, rows.solid_middle, rows.solid_below);
+        let opposite_here = plane(rows.middle, dirs, opposite, words_each);
+        let incoming = Incoming {
+            plane: plane(from, dirs, i, words_each),
+            solid_there,
+            opposite_here,
+            solid_here: rows.solid_middle,
+            width: rows.width,
+            all_fluid: rows.all_fluid,
+        };
+        (along, incoming)
+    }
+
+    // Word `j` of direction `i` after streaming, and 0 if the gas has no such direction.
+    #[inline(always)]
+    fn stream_word<G: Gas>(&self, i: u32, j: usize) -> u64
+        requires rows { AreRowsLong G.rules.dirs self.now.rows }
+        requires within { j < words_in self.now.rows.width }
+        ensures { (channel : ChannelModel) (at : ℕ → ℕ → ℕ) →
+            AreWordsAbout G.rules.dirs channel at self.now.rows → i < G.rules.dirs → (b : ℕ) → b < 64 →
+            64 * j + b < channel.width →
+            holds result b ≡ holds (streamed G.rules channel at (64 * j + b) self.now.rows.y) i }
+    {
+        if i >= G::DIRS {
+            return 0;
+        }
+        let (along, incoming) = self.incoming::<G>(i);
+        stream_word(along, &incoming, j)
+    }
 
     // Words `j` to `j + 3` of direction `i` after streaming, and zeros if the gas has no such direction.
     #[inline(always)]
@@ -98,29 +168,35 @@ impl<'a, 'b> Kernel<'a, 'b> {
         if i >= G::DIRS {
             return u64x4::splat(0);
         }
-        let rows = self.rows;
-        let dirs = directions::<G>();
-        let words_each = words_for(rows.width);
-        let opposite = G::opposite(i);
-        let (along, down) = moves::<G>(opposite, rows.y % 2 == 1);
-        let from = row_beside(down, rows.above, rows.middle, rows.below);
-        let solid_there = row_beside(down, rows.solid_above, rows.solid_middle, rows.solid_below);
-        let coming = plane(from, dirs, i, words_each);
-        let opposite_here = plane(rows.middle, dirs, opposite, words_each);
-        let incoming = Incoming {
-            plane: coming,
-            solid_there,
-            opposite_here,
-            solid_here: rows.solid_middle,
-            width: rows.width,
-            all_fluid: rows.all_fluid,
-        };
+        let (along, incoming) = self.incoming::<G>(i);
         stream_four(along, &incoming, j, inner)
+    }
+
+    // Word `j` of each direction after streaming.
+    #[inline(always)]
+    fn stream_words<G: Gas, const KIND: u8>(&self, j: usize) -> [u64; 8]
+        requires rows { AreRowsLong G.rules.dirs self.now.rows }
+        requires within { j < words_in self.now.rows.width }
+        ensures { (channel : ChannelModel) (at : ℕ → ℕ → ℕ) →
+            AreWordsAbout G.rules.dirs channel at self.now.rows → (i b : ℕ) → i < G.rules.dirs → b < 64 →
+            64 * j + b < channel.width → holds (slice_index result i) b
+            ≡ holds (streamed G.rules channel at (64 * j + b) self.now.rows.y) i }
+    {
+        [
+            self.stream_word::<G>(0, j),
+            self.stream_word::<G>(1, j),
+            self.stream_word::<G>(2, j),
+            self.stream_word::<G>(3, j),
+            self.stream_word::<G>(4, j),
+            self.stream_word::<G>(5, j),
+            self.stream_word::<G>(6, j),
+            self.stream_word::<G>(7, j),
+        ]
     }
 
     // Words `j` to `j + 3` of each direction after streaming.
     #[inline(always)]
-    fn stream_planes<G: Gas, const COPY: u8, const INNER: bool>(&self, j: usize) -> [u64x4; 8]
+    fn stream_planes<G: Gas, const KIND: u8, const INNER: bool>(&self, j: usize) -> [u64x4; 8]
         requires rows { AreRowsLong G.rules.dirs self.now.rows }
         requires place { IsPlace self.now.rows.width j INNER }
         ensures { (channel : ChannelModel) (at : ℕ → ℕ → ℕ) →
@@ -166,10 +242,46 @@ impl<'a, 'b> Kernel<'a, 'b> {
         write_four_at(out, words_each, dirs, j, planes, u64x4::splat(0));
     }
 
+    // Writes word `j` of each direction after streaming and, if one follows, the collision. Bits past the width
+    // are left open.
+    #[inline(always)]
+    fn write_word<G: Gas, const KIND: u8>(&self, j: usize, out: &mut [u64])
+        requires rows { AreRowsLong G.rules.dirs self.now.rows }
+        requires within { j < words_in self.now.rows.width }
+        requires long { length out.old ≡ G.rules.dirs * words_in self.now.rows.width }
+        ensures long { length out.new ≡ length out.old }
+        ensures advanced { (channel : ChannelModel) (at : ℕ → ℕ → ℕ) →
+            AreWordsAbout G.rules.dirs channel at self.now.rows →
+            AreAdvanced G.rules channel at self.now j (j + 1) out.old out.new }
+    {
+        let arrived = self.stream_words::<G, KIND>(j);
+        let words = if self.collides {
+            G::collide_planes(arrived, self.chi[j])
+        } else {
+            arrived
+        };
+        write_planes_at(out, words_for(self.rows.width), directions::<G>(), j, words, 0);
+    }
+
+    // Writes all words of a row, one at a time.
+    #[inline(always)]
+    fn write_words<G: Gas, const KIND: u8>(&self, out: &mut [u64])
+        requires rows { AreRowsLong G.rules.dirs self.now.rows }
+        requires long { length out.old ≡ G.rules.dirs * words_in self.now.rows.width }
+        ensures long { length out.new ≡ length out.old }
+        ensures advanced { (channel : ChannelModel) (at : ℕ → ℕ → ℕ) →
+            AreWordsAbout G.rules.dirs channel at self.now.rows →
+            AreAdvanced G.rules channel at self.now 0 (words_in self.now.rows.width) out.old out.new }
+    {
+        for j in 0..words_for(self.rows.width) {
+            self.write_word::<G, KIND>(j, out);
+        }
+    }
+
     // Writes words `j` to `j + 3` of each direction after streaming and, if one follows, the collision. Bits
     // past the width are left open.
     #[inline(always)]
-    fn write_four<G: Gas, const COPY: u8, const INNER: bool>(&self, j: usize, out: &mut [u64])
+    fn write_four<G: Gas, const KIND: u8, const INNER: bool>(&self, j: usize, out: &mut [u64])
         requires rows { AreRowsLong G.rules.dirs self.now.rows }
         requires place { IsPlace self.now.rows.width j INNER }
         requires long { length out.old ≡ G.rules.dirs * words_in self.now.rows.width }
@@ -178,14 +290,14 @@ impl<'a, 'b> Kernel<'a, 'b> {
             AreWordsAbout G.rules.dirs channel at self.now.rows →
             AreAdvanced G.rules channel at self.now j (j + 4) out.old out.new }
     {
-        let arrived = self.stream_planes::<G, COPY, INNER>(j);
+        let arrived = self.stream_planes::<G, KIND, INNER>(j);
         self.put_four::<G>(j, arrived, out);
     }
 
     // Writes the first and the last four words of a row, which may overlap, since the row written is never
     // read for them.
     #[inline(always)]
-    fn write_ends<G: Gas, const COPY: u8>(&self, out: &mut [u64])
+    fn write_ends<G: Gas, const KIND: u8>(&self, out: &mut [u64])
         requires rows { AreRowsLong G.rules.dirs self.now.rows }
         requires long { length out.old ≡ G.rules.dirs * words_in self.now.rows.width }
         ensures long { length out.new ≡ length out.old }
@@ -197,13 +309,13 @@ impl<'a, 'b> Kernel<'a, 'b> {
         let ends = if last == 0 { 1_usize } else { 2 };
         for k in 0..ends {
             let j = if k == 0 { 0 } else { last };
-            self.write_four::<G, COPY, false>(j, out);
+            self.write_four::<G, KIND, false>(j, out);
         }
     }
 
     // Writes the words of a row but the first and the last four.
     #[inline(always)]
-    fn write_middle<G: Gas, const COPY: u8>(&self, out: &mut [u64])
+    fn write_middle<G: Gas, const KIND: u8>(&self, out: &mut [u64])
         requires rows { AreRowsLong G.rules.dirs self.now.rows }
         requires long { length out.old ≡ G.rules.dirs * words_in self.now.rows.width }
         ensures long { length out.new ≡ length out.old }
@@ -216,34 +328,39 @@ impl<'a, 'b> Kernel<'a, 'b> {
             return;
         }
         for k in 1..(words_each - 1) / 4 {
-            self.write_four::<G, COPY, true>(4 * k, out);
+            self.write_four::<G, KIND, true>(4 * k, out);
         }
     }
 
-    // Writes all words of a row.
+    // Writes the words of a row after streaming and, if one follows, the collision. Bits past the width are 0.
     #[inline(always)]
-    fn write_row<G: Gas, const COPY: u8>(&self, out: &mut [u64])
+    fn write_row<G: Gas, const KIND: u8>(&self, out: &mut [u64])
         requires rows { AreRowsLong G.rules.dirs self.now.rows }
         requires long { length out.old ≡ G.rules.dirs * words_in self.now.rows.width }
         ensures long { length out.new ≡ length out.old }
+        ensures clear { IsClear G.rules.dirs self.now.rows.width out.new }
         ensures advanced { (channel : ChannelModel) (at : ℕ → ℕ → ℕ) →
             AreWordsAbout G.rules.dirs channel at self.now.rows →
-            (x : ℕ) → x < channel.width → state out.new (words_in self.now.rows.width) G.rules.dirs x
-            ≡ advanced_state G.rules self.now.collides (streamed G.rules channel at x self.now.rows.y) (bit self.now.chi.now x) }
+            IsAdvanced G.rules channel self.now.collides self.now.chi.now at self.now.rows.width self.now.rows.y out.new }
     {
-        self.write_ends::<G, COPY>(out);
-        self.write_middle::<G, COPY>(out);
+        if words_for(self.rows.width) < 4 {
+            self.write_words::<G, KIND>(out);
+        } else {
+            self.write_ends::<G, KIND>(out);
+            self.write_middle::<G, KIND>(out);
+        }
+        clear_planes_past(out, directions::<G>(), self.rows.width);
     }
 }
 
 impl<'a> Neighbourhood<'a> {
-    ghost use Rattle.gas_geom.specs.Channel.{ChannelModel};
     ghost use Rattle.gas_bits.specs.Planes.{has, state};
     ghost use Rattle.gas_rows.specs.Streaming.{AreWordsAbout, AreRowsLong, advanced};
+    ghost use Rattle.gas_rows.specs.Inner.Streaming.{AreFluidRowsAbout, IsAdvanced};
 
     /// Writes the words of the row after streaming and, if it `collides`, the collision that follows, by
     /// these random bits. Bits past the width are 0.
-    #[inline(never)]
+    #[inline(always)]
     pub fn advance<G: Gas>(&self, chi: &[u64], collides: bool, out: &mut [u64])
         requires rows { AreRowsLong G.rules.dirs self.now }
         requires chi_long { IsTrue collides → length chi.now ≡ words_in self.now.width }
@@ -257,24 +374,108 @@ impl<'a> Neighbourhood<'a> {
             state out.new (words_in self.now.width) G.rules.dirs x
             ≡ advanced G.rules channel collides (λ x y. bit chi.now x) at x self.now.y }
     {
-        let rows = *self;
+        let (above, middle, below) = (self.above, self.middle, self.below);
+        let (width, y) = (self.width, self.y);
+        match (self.all_fluid, y % 2 == 1, collides) {
+            (true, true, true) => Self::advance_fluid::<G, FLUID_ODD_COLLIDES>(
+                above, middle, below, width, y, true, chi, true, out,
+            ),
+            (true, true, false) => Self::advance_fluid::<G, FLUID_ODD>(
+                above, middle, below, width, y, true, chi, false, out,
+            ),
+            (true, false, true) => Self::advance_fluid::<G, FLUID_EVEN_COLLIDES>(
+                above, middle, below, width, y, false, chi, true, out,
+            ),
+            (true, false, false) => Self::advance_fluid::<G, FLUID_EVEN>(
+                above, middle, below, width, y, false, chi, false, out,
+            ),
+            (false, _, _) => self.advance_beside_solid::<G>(chi, collides, out),
+        }
+    }
+
+    // Writes the words of row `y`, which is `odd` or not, after streaming and, if it `collides`, the collision
+    // that follows, where no cell of the three rows is solid. Bits past the width are 0.
+    #[inline(never)]
+    fn advance_fluid<G: Gas, const KIND: u8>(
+        above: &'a [u64],
+        middle: &'a [u64],
+        below: &'a [u64],
+        width: u32,
+        y: u32,
+        odd: bool,
+        chi: &[u64],
+        collides: bool,
+        out: &mut [u64],
+    )
+        requires some_cells { 1 ≤ width }
+        requires few_cells { width ≤ MOST_SIDE }
+        requires above { length above.now ≡ G.rules.dirs * words_in width }
+        requires middle { length middle.now ≡ G.rules.dirs * words_in width }
+        requires below { length below.now ≡ G.rules.dirs * words_in width }
+        requires parity { odd ≡ is_odd y }
+        requires chi_long { IsTrue collides → length chi.now ≡ words_in width }
+        requires long { length out.old ≡ G.rules.dirs * words_in width }
+        ensures long { length out.new ≡ length out.old }
+        ensures clear { IsClear G.rules.dirs width out.new }
+        ensures advanced { (channel : ChannelModel) (at : ℕ → ℕ → ℕ) →
+            AreFluidRowsAbout G.rules.dirs channel at width y above.now middle.now below.now →
+            IsAdvanced G.rules channel collides chi.now at width y out.new }
+    {
+        let solid = no_solid(words_for(width));
+        let rows = Neighbourhood {
+            above,
+            middle,
+            below,
+            solid_above: solid,
+            solid_middle: solid,
+            solid_below: solid,
+            width,
+            y,
+            all_fluid: true,
+        };
         let kernel = Kernel {
             rows,
+            odd,
             chi,
             collides,
         };
-        let (is_short, is_odd) = (words_for(rows.width) < 4, rows.y % 2 == 1);
-        // In each arm a compiler knows what was matched, and so all moves.
-        match (is_short, rows.all_fluid, is_odd, collides) {
-            (false, true, true, true) => kernel.write_row::<G, 0>(out),
-            (false, true, true, false) => kernel.write_row::<G, 1>(out),
-            (false, true, false, true) => kernel.write_row::<G, 2>(out),
-            (false, true, false, false) => kernel.write_row::<G, 3>(out),
-            (false, false, true, _) => kernel.write_row::<G, 4>(out),
-            (false, false, false, _) => kernel.write_row::<G, 5>(out),
-            (true, _, true, _) => kernel.write_row::<G, 6>(out),
-            (true, _, false, _) => kernel.write_row::<G, 7>(out),
+        kernel.write_row::<G, KIND>(out);
+    }
+
+    // The same beside solid cells. Takes a copy, which rows without them need not make.
+    #[inline(never)]
+    fn advance_beside_solid<G: Gas>(self, chi: &[u64], collides: bool, out: &mut [u64])
+        requires rows { AreRowsLong G.rules.dirs self }
+        requires chi_long { IsTrue collides → length chi.now ≡ words_in self.width }
+        requires long { length out.old ≡ G.rules.dirs * words_in self.width }
+        ensures long { length out.new ≡ length out.old }
+        ensures clear { IsClear G.rules.dirs self.entry.width out.new }
+        ensures advanced { (channel : ChannelModel) (at : ℕ → ℕ → ℕ) →
+            AreWordsAbout G.rules.dirs channel at self.entry →
+            IsAdvanced G.rules channel collides chi.now at self.entry.width self.entry.y out.new }
+    {
+        let rows = Neighbourhood {
+            above: self.above,
+            middle: self.middle,
+            below: self.below,
+            solid_above: self.solid_above,
+            solid_middle: self.solid_middle,
+            solid_below: self.solid_below,
+            width: self.width,
+            y: self.y,
+            all_fluid: false,
+        };
+        let odd = rows.y % 2 == 1;
+        let kernel = Kernel {
+            rows,
+            odd,
+            chi,
+            collides,
+        };
+        if odd {
+            kernel.write_row::<G, SOLID_ODD>(out);
+        } else {
+            kernel.write_row::<G, SOLID_EVEN>(out);
         }
-        clear_planes_past(out, directions::<G>(), self.width);
     }
 }
