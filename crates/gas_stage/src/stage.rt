@@ -62,18 +62,37 @@ pub(crate) fn collide_if<G: Gas>(
 /// computes the next lattice's rows or passes the rows on. It keeps three rows, for any height.
 #[derive(Drop)]
 pub struct Stage<'a, G: Gas> {
+    bare: BareStage<'a, G>,
+    scratch: Row<G>,
+}
+
+impl<'a, G: Gas> Model for Stage<'a, G> {
+    ghost use Rattle.std.specs.Prelude.{◌≡◌, length};
+    ghost use Rattle.gas_stage.specs.Stage.{StageModel};
+
+    ghost Value = { StageModel };
+
+    ghost view = { λ s. s.bare };
+
+    ghost invariant = { λ s. record {
+      scratch_wide : length s.scratch ≡ s.bare.channel.width;
+    } };
+}
+
+/// A stage without the row into which it writes the next row that it returns, so that many can share
+/// this row.
+#[derive(Drop)]
+pub(crate) struct BareStage<'a, G: Gas> {
     channel: &'a Channel,
     mode: Mode,
     fed: u32,
     random_bits: RandomBits,
-    // The last three rows fed, collided. The oldest is scratch once the row below it is out: the next
-    // row given is written into it.
-    oldest: Row<G>,
+    // The last two rows fed, collided.
     before_last: Row<G>,
     last: Option<Row<G>>,
 }
 
-impl<'a, G: Gas> Model for Stage<'a, G> {
+impl<'a, G: Gas> Model for BareStage<'a, G> {
     ghost use Rattle.std.specs.Prelude.{◌≡◌, ◌<◌, ◌≤◌, ℕ, [], length, unwrap_or, IsSome, None};
     ghost use Rattle.std.specs.Option.{ForSome};
     ghost use Rattle.gas_geom.specs.declared.size.TheConstants.{MOST_SIDE};
@@ -94,7 +113,6 @@ impl<'a, G: Gas> Model for Stage<'a, G> {
 
     ghost invariant = { λ s. record {
       bits_wide : length s.random_bits.bits ≡ s.channel.now.width;
-      oldest_wide : length s.oldest ≡ s.channel.now.width;
       before_last_wide : length s.before_last ≡ s.channel.now.width;
       last_wide : ForSome s.last (λ r. length r ≡ s.channel.now.width);
       few_rows : s.channel.now.height ≤ MOST_SIDE;
@@ -120,15 +138,9 @@ impl<'a, G: Gas> Stage<'a, G> {
         ensures closed { IfOk result (λ s. s.pass ≡ None) }
         ensures whole { IsChannel channel.now }
     {
-        let width = channel.size().width();
         Ok(Stage {
-            channel,
-            mode: Mode::Closed,
-            fed: 0,
-            random_bits: RandomBits::new(alloc, chirality, width)?,
-            oldest: Row::blank(alloc, width)?,
-            before_last: Row::blank(alloc, width)?,
-            last: None,
+            bare: BareStage::new(alloc, channel, chirality)?,
+            scratch: Row::blank(alloc, channel.size().width())?,
         })
     }
 
@@ -138,10 +150,7 @@ impl<'a, G: Gas> Stage<'a, G> {
         ensures opened { self.new ≡ record self.old { pass = Some generation } }
         ensures fits { MayHaveBeenFed G.rules self.new generation [] }
     {
-        self.mode = match generation {
-            Some(generation) => Mode::Computes(generation),
-            None => Mode::HandsOn,
-        };
+        self.bare.begin(generation);
     }
 
     /// Takes the next row of the open pass. A computing pass returns None for the first row, and
@@ -164,10 +173,80 @@ impl<'a, G: Gas> Stage<'a, G> {
             given G.rules self.old.channel self.old.chirality p (q ++ row ∷ [])
             ≡ given G.rules self.old.channel self.old.chirality p q ++ option_to_list result }
     {
-        self.collide(&mut row);
+        self.bare.collide(&mut row);
         let mut row = Some(row);
-        self.pass_on(&mut row, None);
+        self.bare.pass_on(&mut row, None, &mut self.scratch);
         row
+    }
+
+    /// Closes the open pass, in which all rows were fed. A computing pass returns the last row of
+    /// the next lattice, and another one None.
+    pub fn flush(&mut self) -> Option<Row<G>>
+        requires open { IsSome self.old.pass }
+        requires all { self.old.fed ≡ self.old.channel.height }
+        ensures channel { self.new.channel ≡ self.old.channel }
+        ensures chirality { self.new.chirality ≡ self.old.chirality }
+        ensures closed { self.new.pass ≡ None }
+        ensures none_fed { self.new.fed ≡ 0 }
+        ensures passes_on { self.old.pass ≡ Some None → result ≡ None }
+        ensures wide { IfSome result (λ r. length r ≡ self.old.channel.width) }
+        ensures gives_all { (p : Option ℕ) (q : List (List ℕ)) → MayHaveBeenFed G.rules self.old p q →
+            owed G.rules self.old.channel self.old.chirality p q
+            ≡ given G.rules self.old.channel self.old.chirality p q ++ option_to_list result }
+    {
+        self.bare.end(None, &mut self.scratch)
+    }
+
+    /// The number of rows fed in the open pass, 0 if none is open.
+    pub fn fed(&self) -> u32
+        ensures value { result ≡ self.now.fed }
+        ensures within { result ≤ self.now.channel.height }
+        ensures closed { self.now.pass ≡ None → result ≡ 0 }
+    {
+        self.bare.fed
+    }
+
+    /// Whether a pass is open.
+    pub fn is_open(&self) -> bool
+        ensures open { IsTrue result ↔ IsSome self.now.pass }
+    {
+        !matches!(self.bare.mode, Mode::Closed)
+    }
+}
+
+impl<'a, G: Gas> BareStage<'a, G> {
+    // With no open pass.
+    pub(crate) fn new(
+        alloc: Global,
+        channel: &'a Channel,
+        chirality: Chirality,
+    ) -> Result<Self, AllocError>
+        ensures channel { IfOk result (λ s. s.channel ≡ channel.now) }
+        ensures chirality { IfOk result (λ s. s.chirality ≡ chirality) }
+        ensures closed { IfOk result (λ s. s.pass ≡ None) }
+        ensures whole { IsChannel channel.now }
+    {
+        let width = channel.size().width();
+        Ok(BareStage {
+            channel,
+            mode: Mode::Closed,
+            fed: 0,
+            random_bits: RandomBits::new(alloc, chirality, width)?,
+            before_last: Row::blank(alloc, width)?,
+            last: None,
+        })
+    }
+
+    // Opens a pass, as `Stage::begin` does.
+    pub(crate) fn begin(&mut self, generation: Option<u64>)
+        requires closed { self.old.pass ≡ None }
+        ensures opened { self.new ≡ record self.old { pass = Some generation } }
+        ensures fits { MayHaveBeenFed G.rules self.new generation [] }
+    {
+        self.mode = match generation {
+            Some(generation) => Mode::Computes(generation),
+            None => Mode::HandsOn,
+        };
     }
 
     // Collides the row that is fed next, if the stage computes.
@@ -204,11 +283,18 @@ impl<'a, G: Gas> Stage<'a, G> {
     /// Takes the next row of the open pass, collided if the stage computes, and leaves what `feed`
     /// returns in its place, collided for the step from a later generation if one is given.
     #[inline(always)]
-    pub(crate) fn pass_on(&mut self, row: &mut Option<Row<G>>, then: Option<u64>)
+    pub(crate) fn pass_on(
+        &mut self,
+        row: &mut Option<Row<G>>,
+        then: Option<u64>,
+        scratch: &mut Row<G>,
+    )
         requires open { IsSome self.old.pass }
         requires room { self.old.fed < self.old.channel.height }
         requires some { IsSome row.old }
         requires wide { IfSome row.old (λ r. length r ≡ self.old.channel.width) }
+        requires scratch_wide { length scratch.old ≡ self.old.channel.width }
+        ensures scratch_wide { length scratch.new ≡ length scratch.old }
         ensures channel { self.new.channel ≡ self.old.channel }
         ensures chirality { self.new.chirality ≡ self.old.chirality }
         ensures pass { self.new.pass ≡ self.old.pass }
@@ -237,45 +323,29 @@ impl<'a, G: Gas> Stage<'a, G> {
             self.last = row.take();
             return;
         };
-        mem::swap(passed, last);
-        mem::swap(passed, &mut self.before_last);
-        mem::swap(passed, &mut self.oldest);
         draw_if::<G>(&mut self.random_bits, then, y - 1);
         stream_into(
             self.channel,
             y - 1,
-            &self.oldest,
             &self.before_last,
             last,
+            passed,
             self.random_bits.mask(),
             then.is_some(),
-            passed,
+            scratch,
         );
-    }
-
-    /// Closes the open pass, in which all rows were fed. A computing pass returns the last row of
-    /// the next lattice, and another one None.
-    pub fn flush(&mut self) -> Option<Row<G>>
-        requires open { IsSome self.old.pass }
-        requires all { self.old.fed ≡ self.old.channel.height }
-        ensures channel { self.new.channel ≡ self.old.channel }
-        ensures chirality { self.new.chirality ≡ self.old.chirality }
-        ensures closed { self.new.pass ≡ None }
-        ensures none_fed { self.new.fed ≡ 0 }
-        ensures passes_on { self.old.pass ≡ Some None → result ≡ None }
-        ensures wide { IfSome result (λ r. length r ≡ self.old.channel.width) }
-        ensures gives_all { (p : Option ℕ) (q : List (List ℕ)) → MayHaveBeenFed G.rules self.old p q →
-            owed G.rules self.old.channel self.old.chirality p q
-            ≡ given G.rules self.old.channel self.old.chirality p q ++ option_to_list result }
-    {
-        self.end(None)
+        mem::swap(passed, last);
+        mem::swap(passed, &mut self.before_last);
+        mem::swap(passed, scratch);
     }
 
     /// Closes the open pass as `flush` does, and returns the same row, collided for the step from a
     /// later generation if one is given.
-    pub(crate) fn end(&mut self, then: Option<u64>) -> Option<Row<G>>
+    pub(crate) fn end(&mut self, then: Option<u64>, scratch: &mut Row<G>) -> Option<Row<G>>
         requires open { IsSome self.old.pass }
         requires all { self.old.fed ≡ self.old.channel.height }
+        requires scratch_wide { length scratch.old ≡ self.old.channel.width }
+        ensures scratch_wide { length scratch.new ≡ length scratch.old }
         ensures channel { self.new.channel ≡ self.old.channel }
         ensures chirality { self.new.chirality ≡ self.old.chirality }
         ensures closed { self.new.pass ≡ None }
@@ -291,36 +361,18 @@ impl<'a, G: Gas> Stage<'a, G> {
         self.fed = 0;
         self.mode = Mode::Closed;
         let last = self.last.take()?;
-        let upper = mem::replace(&mut self.before_last, last);
-        let mut bottom = mem::replace(&mut self.oldest, upper);
         draw_if::<G>(&mut self.random_bits, then, y - 1);
         // Below the bottom row no row is read.
         stream_into(
             self.channel,
             y - 1,
-            &self.oldest,
             &self.before_last,
-            &self.before_last,
+            &last,
+            &last,
             self.random_bits.mask(),
             then.is_some(),
-            &mut bottom,
+            scratch,
         );
-        Some(bottom)
-    }
-
-    /// The number of rows fed in the open pass, 0 if none is open.
-    pub fn fed(&self) -> u32
-        ensures value { result ≡ self.now.fed }
-        ensures within { result ≤ self.now.channel.height }
-        ensures closed { self.now.pass ≡ None → result ≡ 0 }
-    {
-        self.fed
-    }
-
-    /// Whether a pass is open.
-    pub fn is_open(&self) -> bool
-        ensures open { IsTrue result ↔ IsSome self.now.pass }
-    {
-        !matches!(self.mode, Mode::Closed)
+        Some(mem::replace(scratch, last))
     }
 }

@@ -1,4 +1,4 @@
-//! Stages one behind another: they compute several generations in one pass, and keep three rows for
+//! Stages one behind another: they compute several generations in one pass, and keep two rows for
 //! each.
 ghost use Rattle.std.specs.Prelude.{◌≡◌, ◌+◌, ◌<◌, ◌≤◌, ◌^◌, ◌++◌, ◌∷◌, ℕ, [], List, length, map, take, drop, nat_lt, if◌then◌else◌, Option, Some, None, IsNone, IsSome, IfSome, IfOk, IsTrue, ◌↔◌};
 ghost use Rattle.std.specs.List.{range_with_len};
@@ -9,7 +9,7 @@ ghost use Rattle.gas_stage.specs.Stages.{StagesModel, MayAllHaveBeenFed, MayEach
 ghost use Rattle.gas_stage.specs.Inner.Passes.{kept, first_does};
 ghost use Rattle.gas_stage.specs.Inner.Stages.{AreClosed, IsUnderWay};
 
-use crate::stage::{Stage, collide_if};
+use crate::stage::{BareStage, collide_if};
 use gas_geom::gas::Gas;
 use gas_rows::channel::Channel;
 use gas_rows::chirality::{Chirality, RandomBits};
@@ -21,11 +21,13 @@ use std::marker::Model;
 /// the top, and each later one the rows that the stage before it returns.
 #[derive(Drop)]
 pub struct Stages<'a, G: Gas> {
-    stages: Vec<Stage<'a, G>>,
+    stages: Vec<BareStage<'a, G>>,
     channel: &'a Channel,
     chirality: Chirality,
     // Those of the row that is fed. The bits of a stage are those of the row that it returns.
     entry_bits: RandomBits,
+    // The stages write into it in turn. The row that one returns leaves another row here.
+    scratch: Row<G>,
     flushed: usize,
     fed: u32,
 }
@@ -52,6 +54,7 @@ impl<'a, G: Gas> Model for Stages<'a, G> {
       few_rows : s.channel.now.height ≤ MOST_SIDE;
       entry_bits_wide : length s.entry_bits.bits ≡ s.channel.now.width;
       entry_bits_alike : s.entry_bits.chirality ≡ s.chirality;
+      scratch_wide : length s.scratch ≡ s.channel.now.width;
       fed_fits : s.fed ≤ s.channel.now.height;
       flushed_fits : s.flushed ≤ length s.stages.items;
       closed : s.flushed ≡ length s.stages.items → AreClosed s.channel.now s.chirality s.stages.items;
@@ -77,14 +80,16 @@ impl<'a, G: Gas> Stages<'a, G> {
     {
         let mut stages = Vec::with_capacity(alloc, count as usize)?;
         for _ in 0..count {
-            stages.push(Stage::new(alloc, channel, chirality)?)?;
+            stages.push(BareStage::new(alloc, channel, chirality)?)?;
         }
+        let width = channel.size().width();
         Ok(Stages {
             flushed: stages.len(),
             stages,
             channel,
             chirality,
-            entry_bits: RandomBits::new(alloc, chirality, channel.size().width())?,
+            entry_bits: RandomBits::new(alloc, chirality, width)?,
+            scratch: Row::blank(alloc, width)?,
             fed: 0,
         })
     }
@@ -139,7 +144,7 @@ impl<'a, G: Gas> Stages<'a, G> {
         );
         self.fed += 1;
         let mut row = Some(row);
-        pass_from(&mut self.stages, 0, &mut row);
+        pass_from(&mut self.stages, 0, &mut row, &mut self.scratch);
         row
     }
 
@@ -173,7 +178,7 @@ impl<'a, G: Gas> Stages<'a, G> {
     {
         for k in self.flushed..self.stages.len() {
             self.flushed = k + 1;
-            let given = flush_stage(&mut self.stages, k);
+            let given = flush_stage(&mut self.stages, k, &mut self.scratch);
             if given.is_some() {
                 return given;
             }
@@ -209,7 +214,7 @@ impl<'a, G: Gas> Stages<'a, G> {
 }
 
 // Opens a pass of stage `k` and of those behind it.
-fn begin_from<G: Gas>(stages: &mut [Stage<'_, G>], k: usize, first: u64, computing: u32)
+fn begin_from<G: Gas>(stages: &mut [BareStage<'_, G>], k: usize, first: u64, computing: u32)
     requires closed { (c : ChannelModel) × ((h : Chirality) × AreClosed c h (drop k stages.old)) }
     requires room { first + computing ≤ 2 ^ 64 }
     requires few { length stages.old ≤ 64 }
@@ -231,7 +236,7 @@ fn begin_from<G: Gas>(stages: &mut [Stage<'_, G>], k: usize, first: u64, computi
 }
 
 // The generation from which stage `k` computes the step, if there is such a stage and it does.
-fn generation_of<G: Gas>(stages: &[Stage<'_, G>], k: usize) -> Option<u64>
+fn generation_of<G: Gas>(stages: &[BareStage<'_, G>], k: usize) -> Option<u64>
     ensures { (c : ChannelModel) (h : Chirality) (es : List (Option ℕ)) (q : List (List ℕ)) →
         MayEachHaveBeenFed G.rules c h 0 (drop k stages.now) es q → result ≡ first_does es }
 {
@@ -244,13 +249,19 @@ fn generation_of<G: Gas>(stages: &[Stage<'_, G>], k: usize) -> Option<u64>
 
 // Passes a row that is collided for stage `k` to it, and what each stage gives for it, collided for the
 // next one, to the next. What the last one gives is not collided, and stands in the row's place then.
-fn pass_from<G: Gas>(stages: &mut [Stage<'_, G>], k: usize, row: &mut Option<Row<G>>)
+fn pass_from<G: Gas>(
+    stages: &mut [BareStage<'_, G>],
+    k: usize,
+    row: &mut Option<Row<G>>,
+    scratch: &mut Row<G>,
+)
     requires fits { (c : ChannelModel) × ((h : Chirality) × ((n : ℕ) ×
         (IsUnderWay G.rules c h 0 n (drop k stages.old) × (n < c.height)
-        × IfSome row.old (λ r. length r ≡ c.width)))) }
+        × IfSome row.old (λ r. length r ≡ c.width) × (length scratch.old ≡ c.width)))) }
     requires some { IsSome row.old }
     ensures before { take k stages.new ≡ take k stages.old }
     ensures wide { (n : ℕ) → IfSome row.old (λ r. length r ≡ n) → IfSome row.new (λ r. length r ≡ n) }
+    ensures scratch_wide { length scratch.new ≡ length scratch.old }
     ensures fits { (c : ChannelModel) (h : Chirality) (es : List (Option ℕ)) (q : List (List ℕ))
         (r : List ℕ) → MayEachHaveBeenFed G.rules c h 0 (drop k stages.old) es q →
         row.old ≡ Some (kept G.rules c h (first_does es) (length q) r) →
@@ -263,20 +274,25 @@ fn pass_from<G: Gas>(stages: &mut [Stage<'_, G>], k: usize, row: &mut Option<Row
 {
     if k < stages.len() {
         let then = generation_of(stages, k + 1);
-        stages[k].pass_on(row, then);
+        stages[k].pass_on(row, then, scratch);
         if row.is_some() {
-            pass_from(stages, k + 1, row);
+            pass_from(stages, k + 1, row, scratch);
         }
     }
 }
 
 // Flushes stage `k`, behind those that were flushed, into the ones behind it.
-fn flush_stage<G: Gas>(stages: &mut [Stage<'_, G>], k: usize) -> Option<Row<G>>
+fn flush_stage<G: Gas>(
+    stages: &mut [BareStage<'_, G>],
+    k: usize,
+    scratch: &mut Row<G>,
+) -> Option<Row<G>>
     requires fits { (c : ChannelModel) × ((h : Chirality) ×
-        IsUnderWay G.rules c h k c.height stages.old) }
+        (IsUnderWay G.rules c h k c.height stages.old × (length scratch.old ≡ c.width))) }
     requires stage { k < length stages.old }
     ensures wide { (c : ChannelModel) (h : Chirality) →
         IsUnderWay G.rules c h k c.height stages.old → IfSome result (λ r. length r ≡ c.width) }
+    ensures scratch_wide { length scratch.new ≡ length scratch.old }
     ensures fits { (c : ChannelModel) (h : Chirality) (es : List (Option ℕ)) (q : List (List ℕ)) →
         MayEachHaveBeenFed G.rules c h k stages.old es q → length q ≡ c.height →
         MayEachHaveBeenFed G.rules c h (k + 1) stages.new es q }
@@ -286,9 +302,9 @@ fn flush_stage<G: Gas>(stages: &mut [Stage<'_, G>], k: usize) -> Option<Row<G>>
         ≡ given_by G.rules c h k es q ++ option_to_list result }
 {
     let then = generation_of(stages, k + 1);
-    let mut last = stages[k].end(then);
+    let mut last = stages[k].end(then, scratch);
     if last.is_some() {
-        pass_from(stages, k + 1, &mut last);
+        pass_from(stages, k + 1, &mut last, scratch);
     }
     last
 }

@@ -19,6 +19,12 @@ pass_on-requires-clause-wide g t c =
     let known = can_feed g.G.Gas.rules ch c.requires.fits.1.0 c.args.stages.now c.args.k c.index-stages-k.result (omega arith) c.requires.fits.1.1.0 c.requires.fits.1.1.1.0 in
     subst (λ (v : ChannelModel). IfSome c.args.row.now (λ r. length r ≡ v.width)) (sym known.0) c.requires.fits.1.1.1.2
 
+pub pass_on-requires-clause-scratch_wide : goal.pass_on-requires-clause-scratch_wide
+pass_on-requires-clause-scratch_wide g t c =
+    let ch : ChannelModel = c.requires.fits.0 in
+    let known = can_feed g.G.Gas.rules ch c.requires.fits.1.0 c.args.stages.now c.args.k c.index-stages-k.result (omega arith) c.requires.fits.1.1.0 c.requires.fits.1.1.1.0 in
+    c.requires.fits.1.1.1.3 ∙ sym (ap (λ (v : ChannelModel). v.width) known.0)
+
 pub pass_from-requires : goal.pass_from-requires
 pass_from-requires g t c κs within =
     let ch : ChannelModel = c.requires.fits.0 in
@@ -40,6 +46,7 @@ pass_from-requires g t c κs within =
                   on.1.0,
                   omega (arith, on.1.1, way.1),
                   subst (λ (v : ChannelModel). IfSome c.pass_on.new.row (λ r. length r ≡ v.width)) known.0 c.pass_on.ensures.wide,
+                  c.pass_on.ensures.scratch_wide ∙ way.3,
                 ),
               ),
             ),

@@ -7,25 +7,46 @@ pub end-last-requires-clause-open : goal.end-last-requires-clause-open
 end-last-requires-clause-open g c =
     let ch : ChannelModel = c.requires.fits.0 in
     (can_feed g.G.Gas.rules ch c.requires.fits.1.0 c.args.stages.now c.args.k c.index-stages-k.result c.requires.stage ch.height
-    (from_flushed g.G.Gas.rules ch c.requires.fits.1.0 c.args.k c.args.stages.now c.requires.fits.1.1 c.requires.stage)).1
+    (from_flushed g.G.Gas.rules ch c.requires.fits.1.0 c.args.k c.args.stages.now c.requires.fits.1.1.0 c.requires.stage)).1
 
 pub end-last-requires-clause-all : goal.end-last-requires-clause-all
 end-last-requires-clause-all g c =
     let ch : ChannelModel = c.requires.fits.0 in
     let known = can_feed g.G.Gas.rules ch c.requires.fits.1.0 c.args.stages.now c.args.k c.index-stages-k.result c.requires.stage ch.height
-    (from_flushed g.G.Gas.rules ch c.requires.fits.1.0 c.args.k c.args.stages.now c.requires.fits.1.1 c.requires.stage) in
+    (from_flushed g.G.Gas.rules ch c.requires.fits.1.0 c.args.k c.args.stages.now c.requires.fits.1.1.0 c.requires.stage) in
     known.2 ∙ sym (ap (λ (v : ChannelModel). v.height) known.0)
+
+pub end-last-requires-clause-scratch_wide : goal.end-last-requires-clause-scratch_wide
+end-last-requires-clause-scratch_wide g c =
+    let ch : ChannelModel = c.requires.fits.0 in
+    let known = can_feed g.G.Gas.rules ch c.requires.fits.1.0 c.args.stages.now c.args.k c.index-stages-k.result c.requires.stage ch.height
+    (from_flushed g.G.Gas.rules ch c.requires.fits.1.0 c.args.k c.args.stages.now c.requires.fits.1.1.0 c.requires.stage) in
+    c.requires.fits.1.1.1 ∙ sym (ap (λ (v : ChannelModel). v.width) known.0)
 
 pub pass_from-requires : goal.pass_from-requires
 pass_from-requires g c =
     let ch : ChannelModel = c.requires.fits.0 in
     let some = sym c.is_some.ensures ∙ c.if-is_some.true in
-    let way = from_flushed g.G.Gas.rules ch c.requires.fits.1.0 c.args.k c.args.stages.now c.requires.fits.1.1 c.requires.stage in
+    let way = from_flushed g.G.Gas.rules ch c.requires.fits.1.0 c.args.k c.args.stages.now c.requires.fits.1.1.0 c.requires.stage in
     let known = can_feed g.G.Gas.rules ch c.requires.fits.1.0 c.args.stages.now c.args.k c.index-stages-k.result c.requires.stage ch.height way in
     let on = can_be_fed g.G.Gas.rules ch c.requires.fits.1.0 c.args.stages.now c.args.k c.index-stages-k.result c.requires.stage c.end-last.new.self
     c.generation_of-then.result c.end-last.result some c.end-last.ensures.gives_all way in
     record {
-      fits = (ch, (c.requires.fits.1.0, (on.0, (on.1.0, on.1.1, subst (λ (v : ChannelModel). IfSome c.end-last.result (λ r. length r ≡ v.width)) known.0 c.end-last.ensures.wide))));
+      fits = (
+        ch,
+        (
+          c.requires.fits.1.0,
+          (
+            on.0,
+            (
+              on.1.0,
+              on.1.1,
+              subst (λ (v : ChannelModel). IfSome c.end-last.result (λ r. length r ≡ v.width)) known.0 c.end-last.ensures.wide,
+              c.end-last.ensures.scratch_wide ∙ c.requires.fits.1.1.1,
+            ),
+          ),
+        ),
+      );
       some = some;
     }
 

@@ -24,6 +24,7 @@ invariant_of-self g c =
       few_rows = c.self.invariant.few_rows;
       entry_bits_wide = c.self.invariant.entry_bits_wide;
       entry_bits_alike = c.self.invariant.entry_bits_alike;
+      scratch_wide = c.self.invariant.scratch_wide;
       fed_fits = omega arith;
       flushed_fits = omega arith;
       closed = λ e. absurd (omega (arith, same, e));

@@ -40,6 +40,7 @@ pass_from-requires g c =
                   (subst (λ n. IsUnderWay g.G.Gas.rules s.channel.now s.chirality n s.fed s.stages.items) none way),
               room,
               c.collide_if.ensures.wide,
+              c.self.invariant.scratch_wide,
             ),
           ),
         ),
@@ -69,6 +70,7 @@ invariant_of-self g c =
       few_rows = c.self.invariant.few_rows;
       entry_bits_wide = c.collide_if.ensures.bits_wide ∙ c.self.invariant.entry_bits_wide;
       entry_bits_alike = c.collide_if.ensures.chirality ∙ c.self.invariant.entry_bits_alike;
+      scratch_wide = c.pass_from.ensures.scratch_wide ∙ c.self.invariant.scratch_wide;
       fed_fits = omega (arith, room);
       flushed_fits = omega (arith, same, opens);
       closed = λ e. absurd (omega (arith, same, e, opens));

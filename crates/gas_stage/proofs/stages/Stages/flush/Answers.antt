@@ -19,6 +19,7 @@ invariant_of-self g c =
       few_rows = c.self.invariant.few_rows;
       entry_bits_wide = c.self.invariant.entry_bits_wide;
       entry_bits_alike = c.self.invariant.entry_bits_alike;
+      scratch_wide = here.scratch ∙ c.self.invariant.scratch_wide;
       fed_fits = c.self.invariant.fed_fits;
       flushed_fits = omega (arith, c.loop-k.auto.k-end, c.self.invariant.flushed_fits, here.count, c.len-k-end.ensures, s.stages.ok.0);
       closed = closes g.G.Gas.rules s.channel.now s.chirality c.loop-k.k s.fed c.loop-k.self-inside.stages.items here.way;
@@ -49,6 +50,8 @@ invariant_of-self-then-is_some g c =
       entry_bits_wide = ap (λ (b : RandomBitsModel). length b.bits) here.entry_bits ∙ c.self.invariant.entry_bits_wide
           ∙ sym (ap (λ (ch : ChannelModel). ch.width) here.channel);
       entry_bits_alike = ap (λ (b : RandomBitsModel). b.chirality) here.entry_bits ∙ c.self.invariant.entry_bits_alike ∙ sym here.chirality;
+      scratch_wide = c.flush_stage-given.ensures.scratch_wide ∙ here.scratch ∙ c.self.invariant.scratch_wide
+          ∙ sym (ap (λ (ch : ChannelModel). ch.width) here.channel);
       fed_fits = omega (arith, here.fed, ap (λ (ch : ChannelModel). ch.height) here.channel, c.self.invariant.fed_fits);
       flushed_fits = omega (arith, same, c.loop-k-test.true, c.len-k-end.ensures, s.stages.ok.0);
       closed = closes g.G.Gas.rules l.channel.now l.chirality (c.loop-k.k + 1) l.fed new way;

@@ -10,6 +10,7 @@ invariant-loop-k g l = record {
   chirality : l.self-inside.chirality ≡ l.initial.self-inside.chirality;
   fed : l.self-inside.fed ≡ l.initial.self-inside.fed;
   entry_bits : l.self-inside.entry_bits ≡ l.initial.self-inside.entry_bits;
+  scratch : length l.self-inside.scratch ≡ length l.initial.self-inside.scratch;
   flushed : l.self-inside.flushed ≡ l.k;
   way : IsUnderWay g.G.Gas.rules l.initial.self-inside.channel.now l.initial.self-inside.chirality l.k l.initial.self-inside.fed l.self-inside.stages.items;
   fits : (es : List (Option ℕ)) (q : List (List ℕ)) →

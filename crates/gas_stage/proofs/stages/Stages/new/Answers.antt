@@ -1,5 +1,5 @@
-use Rattle.std.proofs.Common.{◌∙◌, arith}
-use Rattle.std.proofs.lemmas.List.{length_push}
+use Rattle.std.proofs.Common.{length, ap, ◌∙◌, arith}
+use Rattle.std.proofs.lemmas.List.{length_push, length-replicate}
 use Rattle.gas_stage.proofs.Composed.{closed-push}
 use Rattle.gas_stage.proofs.stages.Stages.new.Goals as goal
 
@@ -17,8 +17,9 @@ invariant_of-result g c = record {
   some = omega (arith, c.loop.invariant.count);
   few = omega (arith, c.loop.invariant.count);
   few_rows = c.loop.invariant.few_rows (omega arith);
-  entry_bits_wide = c.in_ok-new-2.ensures.wide ∙ c.width.ensures.value ∙ c.size.ensures.width;
+  entry_bits_wide = c.in_ok-new-2.ensures.wide ∙ c.width-width.ensures.value ∙ c.size.ensures.width;
   entry_bits_alike = c.in_ok-new-2.ensures.chirality;
+  scratch_wide = ap length c.in_ok-blank.ensures.value ∙ length-replicate _ 0 ∙ c.width-width.ensures.value ∙ c.size.ensures.width;
   fed_fits = omega arith;
   flushed_fits = omega (arith, c.len.ensures);
   closed = λ _. c.loop.invariant.closed;

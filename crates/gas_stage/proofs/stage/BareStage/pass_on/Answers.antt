@@ -3,7 +3,7 @@ use Rattle.gas_rows.specs.Streaming.{AreRowsAbout}
 use Rattle.gas_stage.specs.Inner.Passes.{AreBitsOf, open_pass, kept}
 use Rattle.gas_stage.specs.Stage.{StageModel}
 use Rattle.gas_stage.proofs.Feeding.{not_computing, hands_on-fits, hands_on-gives, pass-fits, pass-gives, advanced-kept}
-use Rattle.gas_stage.proofs.stage.Stage.pass_on.Goals as goal
+use Rattle.gas_stage.proofs.stage.BareStage.pass_on.Goals as goal
 
 -- the row itself enters as the stage keeps it
 row_is : (o : Option (List ℕ)) (row kept : List ℕ) → o ≡ Some row → o ≡ Some kept → row ≡ kept
@@ -41,13 +41,11 @@ returns-clause-gives g c = λ p q r fits enters.
     let ch = s.channel.now in
     let last_is = ap (λ v. unwrap_or v []) c.in-Some-last.is in
     pass-gives gas _ c.args.self.now c.self.view_is c.in-Computes.field-0 (ap open_pass c.in-Computes.is)
-    p q r c.swap.new.y c.stream_into.new.out c.args.then fits (c.swap.ensures.y_after ∙ row_is _ _ _ c.in-Some.is enters)
+    p q r c.swap.new.y c.swap-3.new.x c.args.then fits (c.swap.ensures.y_after ∙ row_is _ _ _ c.in-Some.is enters)
     (c.self.invariant.last_fed (subst IsSome (sym c.in-Some-last.is) refl))
     (subst (λ (v : StageModel). v.fed < v.channel.height) (sym c.self.view_is) c.requires.room)
-    (λ at about. c.stream_into.ensures.streamed at
-    (subst (λ (a : List ℕ). AreRowsAbout ch at (s.fed - 1) a c.swap-2.new.y c.swap.new.y)
-    (sym (c.swap-3.ensures.y_after ∙ c.swap-2.ensures.x_after))
-    (subst (λ (m : List ℕ). AreRowsAbout ch at (s.fed - 1) s.before_last m c.swap.new.y)
-    (sym (c.swap-2.ensures.y_after ∙ c.swap.ensures.x_after ∙ sym last_is)) about))
+    (λ at about. c.swap-3.ensures.x_after ∙ c.stream_into.ensures.streamed at
+    (subst (λ (m : List ℕ). AreRowsAbout ch at (s.fed - 1) s.before_last m c.in-Some.passed) last_is
+    (subst (λ (b : List ℕ). AreRowsAbout ch at (s.fed - 1) s.before_last (unwrap_or s.last []) b) c.swap.ensures.y_after about))
     ∙ advanced-kept gas ch s.random_bits.chirality c.args.then c.is_some.result (length s.random_bits.bits) (s.fed - 1) c.mask.result.now at c.is_some.ensures
     (λ n e. subst (AreBitsOf gas s.random_bits.chirality (length s.random_bits.bits) n (s.fed - 1)) (sym c.mask.ensures.bits) (c.draw_if.ensures.drawn n e)) c.self.invariant.bits_wide)
