@@ -83,10 +83,15 @@ fn no_solid(words_each: usize) -> &'static [u64]
 // The kinds of rows. A compiler puts a function with one caller into it however long it is, and then knows there
 // what the caller knows. So there is a copy of each long function for each `KIND`.
 const FLUID_ODD_COLLIDES: u8 = 0;
+
 const FLUID_ODD: u8 = 1;
+
 const FLUID_EVEN_COLLIDES: u8 = 2;
+
 const FLUID_EVEN: u8 = 3;
+
 const SOLID_ODD: u8 = 4;
+
 const SOLID_EVEN: u8 = 5;
 
 // What is the same for all words of a row.
@@ -260,7 +265,14 @@ impl<'a, 'b> Kernel<'a, 'b> {
         } else {
             arrived
         };
-        write_planes_at(out, words_for(self.rows.width), directions::<G>(), j, words, 0);
+        write_planes_at(
+            out,
+            words_for(self.rows.width),
+            directions::<G>(),
+            j,
+            words,
+            0,
+        );
     }
 
     // Writes all words of a row, one at a time.

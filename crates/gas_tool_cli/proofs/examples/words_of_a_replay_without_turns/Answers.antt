@@ -14,11 +14,15 @@ entered = subcommand_of program_app (codes "fhpgas" ∷ codes "replay" ∷ codes
 
 asked : IsRequestOf entered (Replay 4 2 3 [])
 unfolding clap_on_literals
-asked = (refl, record {
+asked = (
+  refl,
+  record {
     stages_at = (None, refl, refl);
     capacity_at = (None, refl, refl);
     generations_at = ((search rules, omega arith), refl);
-  }, tt)
+  },
+  tt,
+)
 
 pub returns-clause-asked : goal.returns-clause-asked
 returns-clause-asked c = asked
