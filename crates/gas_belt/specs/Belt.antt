@@ -19,12 +19,14 @@ pub record Sender : Type 0 where
   pub spare : Option RowModel
   pub limit : ℕ
 
--- the end that rows are taken from: its belt, all rows taken so far, in order, the number of its spare rows, and how many it has room for
+-- the end that rows are taken from: its belt, all rows taken so far, in order, the number of its spare rows, how many it has room for, and
+-- the number of rows that are known to have come, taken ones too
 pub record Receiver : Type 0 where
   pub belt : Belt
   pub taken : List RowModel
   pub held : ℕ
   pub most : ℕ
+  pub come : ℕ
 
 -- what a belt carried: all rows put on it, and all rows taken from it, in order
 pub record CarriedModel : Type 0 where

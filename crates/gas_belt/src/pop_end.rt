@@ -1,7 +1,7 @@
 //! The end of a ring of words that rows are popped from.
-ghost use Rattle.std.specs.Prelude.{◌≡◌, ◌++◌, length, vec_len, IsTrue, IsFalse};
+ghost use Rattle.std.specs.Prelude.{◌≡◌, ◌+◌, ◌≤◌, ◌++◌, length, vec_len, IsTrue, IsFalse};
 ghost use Rattle.rtrb.specs.Ends.{SameRing};
-ghost use Rattle.rtrb.specs.Ring.{received};
+ghost use Rattle.rtrb.specs.Ring.{received, known_items};
 
 use core::mem::replace_with;
 use gas_geom::gas::Gas;
@@ -25,6 +25,9 @@ impl PopEnd {
         ensures popped { IsTrue result.1 →
             received result.0.ring ≡ received self.ring ++ result.0.words.items }
         ensures unchanged { IsFalse result.1 → received result.0.ring ≡ received self.ring }
+        ensures known { length (received self.ring) + length (known_items self.ring)
+            ≤ length (received result.0.ring) + length (known_items result.0.ring) }
+        ensures succeeds { vec_len self.words ≤ length (known_items self.ring) → IsTrue result.1 }
     {
         let PopEnd {
             mut ring,
@@ -43,6 +46,10 @@ impl PopEnd {
         ensures popped { IsTrue result →
             received self.new.ring ≡ received self.old.ring ++ self.new.words.items }
         ensures unchanged { IsFalse result → received self.new.ring ≡ received self.old.ring }
+        ensures known { length (received self.old.ring) + length (known_items self.old.ring)
+            ≤ length (received self.new.ring) + length (known_items self.new.ring) }
+        ensures succeeds { vec_len self.old.words ≤ length (known_items self.old.ring) →
+            IsTrue result }
     {
         // A try that finds no row is not worth a call.
         let row_words = self.words.len();

@@ -1,9 +1,10 @@
 //! The end of a belt that rows are taken from.
-ghost use Rattle.std.specs.Prelude.{◌≡◌, ◌≢◌, ◌+◌, ◌-◌, ◌≤◌, ◌<◌, ◌++◌, ◌∷◌, [], length, min, vec_len, IfOk, IfSome, IfNone, IsNone};
+ghost use Rattle.std.specs.Prelude.{◌≡◌, ◌≢◌, ◌+◌, ◌-◌, ◌≤◌, ◌<◌, ◌++◌, ◌∷◌, [], length, min, vec_len, IfOk, IfSome, IfNone, IsNone, IsSome};
 ghost use Rattle.rtrb.specs.Ring.{received};
 ghost use Rattle.gas_belt.specs.Inner.Ring.{belt_of, row_words};
 
 use crate::pop_end::PopEnd;
+use crate::tx::Tx;
 use gas_geom::gas::Gas;
 use gas_rows::row::Row;
 use std::alloc::{AllocError, Global};
@@ -17,11 +18,13 @@ pub struct Rx<G: Gas> {
     pub(crate) count: u64,
     width: u32,
     spares: Vec<Row<G>>,
+    // The number of rows that were put when the other end was looked at.
+    looked: u64,
 }
 
 impl<G: Gas> Model for Rx<G> {
-    ghost use Rattle.std.specs.Prelude.{◌≡◌, ◌*◌, ◌<◌, ◌≤◌, length, All, vec_len, vec_capacity};
-    ghost use Rattle.rtrb.specs.Ring.{received};
+    ghost use Rattle.std.specs.Prelude.{◌≡◌, ◌+◌, ◌*◌, ◌<◌, ◌≤◌, length, All, vec_len, vec_capacity};
+    ghost use Rattle.rtrb.specs.Ring.{received, known_items};
     ghost use Rattle.gas_belt.specs.Belt.{Receiver};
     ghost use Rattle.gas_belt.specs.Inner.Ring.{belt_of, row_words, rows_in};
 
@@ -32,10 +35,13 @@ impl<G: Gas> Model for Rx<G> {
       taken = rows_in G.rules.dirs r.width r.count (received r.end.ring);
       held = vec_len r.spares;
       most = vec_capacity r.spares;
+      come = r.looked;
     } };
 
     ghost invariant = { λ r. record {
       counted : length (received r.end.ring) ≡ row_words G.rules.dirs r.width * r.count;
+      known : row_words G.rules.dirs r.width * r.looked
+          ≤ length (received r.end.ring) + length (known_items r.end.ring);
       long : vec_len r.end.words ≡ row_words G.rules.dirs r.width;
       some : 0 < vec_len r.end.words;
       few : vec_capacity r.spares ≤ 65;
@@ -59,6 +65,7 @@ impl<G: Gas> Rx<G> {
           taken = [];
           held = 0;
           most = 2;
+          come = 0;
         }) }
     {
         Ok(Rx {
@@ -66,6 +73,7 @@ impl<G: Gas> Rx<G> {
             count: 0,
             width,
             spares: Vec::with_capacity(alloc, 2)?,
+            looked: 0,
         })
     }
 
@@ -84,8 +92,8 @@ impl<G: Gas> Rx<G> {
     }
 
     /// Takes the oldest row on the belt, into one of the spare rows. None if not all of its words
-    /// have come, no spare row is held, or 2^64 - 1 rows were taken. It never waits. That it takes no
-    /// memory is tested.
+    /// have come, no spare row is held, or 2^64 - 1 rows were taken. A row that is known to have come
+    /// is taken. It never waits. That it takes no memory is tested.
     #[inline(always)]
     #[tactic(auto, using(crate::proofs::Parts::parts_length, crate::proofs::Parts::parts_row))]
     pub fn try_take(&mut self) -> Option<Row<G>>
@@ -97,6 +105,8 @@ impl<G: Gas> Rx<G> {
         ensures unchanged { IfNone result (self.new ≡ self.old) }
         ensures no_spare { self.old.held ≡ 0 → IsNone result }
         ensures no_more { length self.old.taken ≡ u64.MAX → IsNone result }
+        ensures succeeds { 0 < self.old.held → length self.old.taken < u64.MAX →
+            length self.old.taken < self.old.come → IsSome result }
     {
         if self.count == u64::MAX || self.spares.is_empty() {
             return None;
@@ -110,6 +120,17 @@ impl<G: Gas> Rx<G> {
         row.exchange_words(&mut self.end.words);
         self.count += 1;
         Some(row)
+    }
+
+    /// Looks at the other end, and then knows each row that was put.
+    #[tactic(auto, using(crate::proofs::Parts::parts_length))]
+    pub fn look_beside(&mut self, tx: &mut Tx<G>)
+        requires one_belt { tx.old.belt ≡ self.old.belt }
+        ensures looked { self.new ≡ record self.old { come = length tx.old.put } }
+        ensures unchanged { tx.new ≡ tx.old }
+    {
+        self.end.ring.slots_beside(&mut tx.ring);
+        self.looked = tx.count;
     }
 
     /// Keeps the row as a spare row, into which a later row may be taken. It is dropped if there is no

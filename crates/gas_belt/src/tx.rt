@@ -42,8 +42,8 @@ impl<G: Gas> Model for Spent<G> {
 /// The end of a belt that rows are put on. It counts them.
 #[derive(Drop)]
 pub struct Tx<G: Gas> {
-    ring: Producer<u64>,
-    count: u64,
+    pub(crate) ring: Producer<u64>,
+    pub(crate) count: u64,
     width: u32,
     spare: Option<Row<G>>,
     // The number of rows that were taken when the other end was looked at.
