@@ -24,7 +24,8 @@ ROOT = pathlib.Path(__file__).resolve().parents[1]
 DEBIAN = pathlib.Path("/usr/share/cargo/registry")
 LEFT_OUT = {"probes", "example_columns"}
 SHIMMED = "clap", "rand_core", "rtrb", "toml"  # crates whose names the shim has
-ALLOWED = "#[allow(warnings, clippy::all, unsafe_code)] "
+ALLOWED = "#[allow(warnings, clippy::all)] "
+SAFE = "#[forbid(unsafe_code)] " + ALLOWED
 MAIN = "#![cfg_attr(unix, no_main)] #![allow(warnings, clippy::all)] "
 # A call for C as strip.py writes it, before the function that it calls.
 CALL_FOR_C = re.compile(r"^#\[unsafe\(export_name.*? \} \} (?=pub fn )", re.M)
@@ -55,9 +56,11 @@ test = false
 # Rust's own ChaCha chooses the best instructions as it runs, where there is a system.
 PARTS = """
 [features]
-default = ["program"MORE]
-# The program `fhpgas`, which reads scenes. A program that only calls this library does without.
-program = ["dep:arrayvec", "dep:clap", "dep:crossbeam-utils", "dep:thiserror", "dep:toml"]
+default = [DEFAULT]
+# Reads and writes lattices as the texts of scenes.
+scenes = ["dep:thiserror", "dep:toml"]
+# The program `fhpgas`.
+program = ["scenes", "dep:arrayvec", "dep:clap", "dep:crossbeam-utils"]
 # Leaves out the test of each index, because it is proved in the sources that none is out of bounds.
 trusting = []
 
@@ -79,6 +82,10 @@ FOR_INDEXES = """\
 description = "Bit-exact lattice gases: FHP-I, FHP with rest particles, and HPP"
 keywords = ["lattice-gas", "cellular-automata", "fluid", "simulation", "physics"]
 categories = ["science", "simulation"]
+"""
+DOCS = """
+[package.metadata.docs.rs]
+features = ["scenes"]
 """
 WORKSPACE = """
 [workspace]
@@ -150,14 +157,17 @@ def inside(text: str, home: str, modules: dict[str, str]) -> str:
             tokens[i] = f"crate::{home}"
         elif begins and token in modules and tokens[i - 1 : i] != ["."]:
             tokens[i] = modules[token]
-    return re.sub(r"crate::gas_scene::(?=with_lattice\b)", "crate::", "".join(tokens))
+    text = re.sub(r"crate::gas_scene::(?=with_lattice\b)", "crate::", "".join(tokens))
+    return text.replace("#[macro_export]", "#[doc(hidden)] #[macro_export]")
 
 
 def declared(names: list[str], place: str = "") -> str:
-    """The declarations of modules, which lie in another package if a place is given."""
+    """The declarations of modules, which lie in another package if a place is given. The shim alone
+    may have unsafe code."""
     path = f'#[path = "{place}{{name}}/mod.rs"] ' if place else ""
-    modules = (path.format(name=name) + f"{ALLOWED}mod {name}; " for name in names)
-    return "extern crate alloc as heap; " + "".join(modules)
+    shim = f"{path.format(name='shim')}#[allow(unsafe_code)] {ALLOWED}mod shim; "
+    modules = (f"{path.format(name=name)}{SAFE}mod {name}; " for name in names)
+    return "extern crate alloc as heap; " + shim + "".join(modules)
 
 
 def write_modules(name: str, to: pathlib.Path, modules: dict[str, str], attribute: str) -> str:
@@ -179,13 +189,14 @@ def write_modules(name: str, to: pathlib.Path, modules: dict[str, str], attribut
 
 def write_packages(folder: pathlib.Path, proved: str | None) -> None:
     """The manifests, the licences and README of the crate."""
-    own, address = PARTS.replace("MORE", ""), written("CITATION.cff", "^repository-code: (.+)$")
+    address = written("CITATION.cff", "^repository-code: (.+)$")
     about = FOR_INDEXES + (f"repository = {json.dumps(address)}\n" if address else "")
-    trusting = PARTS.replace("MORE", ', "trusting"' if proved else "")
+    trusting = PARTS.replace("DEFAULT", '"program", "trusting"' if proved else '"program"')
+    checked = PARTS.replace("DEFAULT", '"program"')
     manifests = {
-        "fhpgas": about + BIN.format(place="") + own + WORKSPACE,
+        "fhpgas": about + DOCS + BIN.format(place="") + PARTS.replace("DEFAULT", "") + WORKSPACE,
         "engine": BIN.format(place="../") + LIBRARY + trusting,
-        "checks": own + '\n[dev-dependencies]\nrand_pcg = "0.3"\n',
+        "checks": checked + '\n[dev-dependencies]\nrand_pcg = "0.3"\n',
     }
     for name, text in manifests.items():
         head = PACKAGE.format(name=name, version=written("CITATION.cff", "^version: (.+)$"))
@@ -194,7 +205,7 @@ def write_packages(folder: pathlib.Path, proved: str | None) -> None:
         write(folder / name, (ROOT / name).read_text())
     interface = written("include/fhpgas.h", r"FHPGAS_INTERFACE (\d+)")
     write(folder / "engine/build.rs", BUILD.format(interface=interface))
-    said = re.findall(r"^//! ?(.*)", (ROOT / "plain/front.rs").read_text(), re.M)
+    said = re.findall(r"^//! ?(?!# Ok)(.*)", (ROOT / "plain/front.rs").read_text(), re.M)
     write(folder / "README.md", "\n".join(["# fhpgas\n", *said, ""]))
 
 
@@ -203,8 +214,9 @@ def make(folder: pathlib.Path, proved: str | None = None, checked: str = "tests_
     names = f"(?!tests_)|{checked}"
     uses = {name: used for name, used in crates().items() if re.match(names, name)}
     tests = [name for name in uses if name.startswith("tests_")]
-    library = ["shim", *sorted(below("gas_export", uses) & uses.keys())]
-    program = ["shim", *(name for name in uses if name not in (*tests, "fhpgas"))]
+    library = sorted(below("gas_export", uses) & uses.keys())
+    scenes = sorted(below("gas_scene", uses) & uses.keys() - {*library})
+    program = [name for name in uses if name not in (*tests, "fhpgas")]
     modules = {name: f"crate::{name}" for name in ("shim", *uses)}
     modules |= {name: f"crate::shim::{name}" for name in SHIMMED}
     calls = ""
@@ -217,6 +229,8 @@ def make(folder: pathlib.Path, proved: str | None = None, checked: str = "tests_
     roots = {"front.rs": "src/lib.rs", "engine.rs": "engine/lib.rs"}
     for name, place in roots.items():
         known = declared(library, "" if name == "front.rs" else "../src/")
+        if name == "front.rs":
+            known += "".join(f'#[cfg(feature = "scenes")] {SAFE}mod {it}; ' for it in scenes)
         text = (ROOT / "plain" / name).read_text().replace("// modules", known)
         write(folder / place, text.replace("// calls", calls))
     checks = declared(program, "../../src/") + "".join(f"mod {name}; " for name in tests)

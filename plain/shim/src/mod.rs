@@ -15,6 +15,9 @@ pub mod memory;
 pub mod rand_core;
 pub mod simd;
 
+#[cfg(feature = "scenes")]
+pub mod toml;
+
 /// What needs a system.
 macro_rules! with_a_system {
     ($($item:item)*) => { $(#[cfg(feature = "program")] $item)* };
@@ -26,7 +29,6 @@ with_a_system! {
     pub mod sync;
     pub mod system;
     pub mod thread;
-    pub mod toml;
     pub use std::io;
     pub use system::{env, fs, os, process, test, time};
 }
@@ -77,6 +79,8 @@ pub mod prelude {
     pub use super::index::At;
     pub use super::memory::{InMemory as _, String, Vec};
     pub use super::rand_core;
+    #[cfg(feature = "scenes")]
+    pub use super::toml;
     #[cfg(feature = "program")]
     pub use super::{
         clap,
@@ -84,7 +88,6 @@ pub mod prelude {
         rtrb,
         sync::Parking as _,
         thread::ScopeExt as _,
-        toml,
     };
     pub use core::fmt::Write as _;
     /// Leave to drop a value, which Rust gives to all.
