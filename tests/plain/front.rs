@@ -72,6 +72,117 @@ fn planes_blocks_and_parts_of_runs_agree() {
     }
 }
 
+/// A lattice of any gas and chirality, with this many rows.
+fn any(random: &mut Random, height: u32) -> Lattice {
+    let (gas, chirality, width) = (random.gas(), random.chirality(), 1 + random.below(150) as u32);
+    let (states, solid) = random.cells(gas, width as usize * height as usize);
+    let lattice = Lattice::new(gas, chirality, (width, height), &states, &solid).unwrap();
+    lattice.at_generation(random.below(1_000_000_000_001)).unwrap()
+}
+
+#[test]
+fn strips_are_the_whole() {
+    let mut random = Random(4);
+    for threads in 1..10 {
+        let height = 60 + random.below(500) as u32;
+        let mut one = any(&mut random, height);
+        let mut many = one.clone();
+        for generations in [random.below(9), random.below(90)] {
+            one.run(generations).unwrap();
+            many.run_by(threads, generations).unwrap();
+            assert!(one == many, "{threads} threads, {:?}, {generations} generations", one.size());
+        }
+    }
+}
+
+#[test]
+fn a_run_goes_on_where_it_was_kept() {
+    let mut random = Random(5);
+    for _ in 0..50 {
+        let mut whole = any(&mut random, 9);
+        whole.run(random.below(9)).unwrap();
+        let (size, states, solid) = (whole.size(), whole.states(), whole.solid());
+        let mut rest = Lattice::new(whole.gas(), whole.chirality(), size, &states, &solid).unwrap();
+        if whole.generation() > 1_000_000_000_000 {
+            continue;
+        }
+        rest = rest.at_generation(whole.generation()).unwrap();
+        assert_eq!(rest, whole);
+        rest.run(20).unwrap();
+        whole.run(20).unwrap();
+        assert_eq!(rest, whole);
+    }
+}
+
+/// Backwards a run meets the same lattices, reversed, and at its start the states that it had.
+#[test]
+fn a_reversed_run_leads_back() {
+    let mut random = Random(6);
+    let mut refused = 0;
+    for _ in 0..60 {
+        let start = any(&mut random, 12);
+        if start.clone().reverse() == Err(Error::Seeded) {
+            assert!(matches!(start.chirality(), Chirality::Seeded(_)) && start.gas() != Gas::Hpp);
+            refused += 1;
+            continue;
+        }
+        let (there, back) = (random.below(9), random.below(9));
+        let mut middle = start.clone();
+        middle.run(there).unwrap();
+        let mut end = middle.clone();
+        end.run(back).unwrap();
+        end.reverse().unwrap();
+        end.run(back).unwrap();
+        middle.reverse().unwrap();
+        assert_eq!((end.states(), end.chirality()), (middle.states(), middle.chirality()));
+        end.run(there).unwrap();
+        end.reverse().unwrap();
+        assert_eq!((end.states(), end.chirality()), (start.states(), start.chirality()));
+    }
+    assert!(refused > 0);
+    let mut pairs = Lattice::new(Gas::FhpRest, Chirality::Left, (3, 1), &[1, 9, 0x41], &[0; 3]).unwrap();
+    pairs.reverse().unwrap();
+    // To the west; a pair to the left and its mirror, which is itself; and one with one at rest makes two, to the west.
+    assert_eq!((pairs.states(), pairs.chirality()), (vec![8, 0x12, 0x14], Chirality::Right));
+}
+
+#[cfg(feature = "scenes")]
+#[test]
+fn a_scene_is_the_lattice() {
+    let mut random = Random(7);
+    let mut seeds = 0;
+    for _ in 0..100 {
+        let height = 1 + random.below(12) as u32;
+        let lattice = any(&mut random, height);
+        match lattice.chirality() {
+            Chirality::Seeded(seed) if seed >> 63 == 1 => {
+                assert_eq!(lattice.scene(), Err(Error::Seed(seed)));
+                seeds += 1;
+            }
+            _ => assert_eq!(Lattice::read(&lattice.scene().unwrap()), Ok(lattice)),
+        }
+    }
+    assert!(seeds > 0);
+    let area = "gas = \"fhp-rest\"\nversion = 2\ngeneration = 8\nwidth = 70\nheight = 2\nsolid = [[64, 1, 6, 1]]\nparticles = [[69, 0, 65]]\n";
+    let lattice = Lattice::read(area).unwrap();
+    assert_eq!((lattice.gas(), lattice.chirality(), lattice.size()), (Gas::FhpRest, Chirality::Seeded(0), (70, 2)));
+    assert_eq!((lattice.generation(), lattice.states()[69], lattice.solid()[70..].to_vec()), (8, 65, [vec![0; 64], vec![1; 6]].concat()));
+    for (text, line) in [
+        ("gas", "scene: not TOML"),
+        ("gas = \"hpp\"", "scene: missing key"),
+        ("gas = 1\ncells = [\"..\"]", "scene: wrong type"),
+        ("gas = \"hpp\"\ncells = [\"..\", \"....\"]", "scene: row 1 has a wrong length"),
+        ("gas = \"hpp\"\ncells = [\"..10\"]", "scene: row 0 cell 1 is not a cell"),
+    ] {
+        let found = Lattice::read(text).unwrap_err();
+        assert!(matches!(found, Error::Scene(_)));
+        assert_eq!(found.to_string(), line);
+    }
+    let mut last = lattice.at_generation(1_000_000_000_000).unwrap();
+    last.run(1).unwrap();
+    assert_eq!(last.scene(), Err(Error::Generation(1_000_000_000_001)));
+}
+
 #[test]
 fn what_is_unlawful_has_a_name() {
     let new = |size, states: &[u8], solid: &[u8]| Lattice::new(Gas::Hpp, Chirality::Left, size, states, solid);
@@ -86,7 +197,10 @@ fn what_is_unlawful_has_a_name() {
     let before = lattice.clone();
     lattice.run(3).unwrap();
     assert_eq!(lattice.run(u64::MAX), Err(Error::Generations(u64::MAX)));
+    assert_eq!(lattice.run_by(9, u64::MAX - 2), Err(Error::Generations(u64::MAX - 2)));
+    assert_eq!(lattice.run_by(0, 1), Err(Error::Threads));
     assert_eq!(lattice.generation(), 3);
+    assert_eq!(lattice.at_generation(1_000_000_000_001), Err(Error::Generation(1_000_000_000_001)));
     assert_eq!(before.blocks(0, 2), Err(Error::Block(0, 2)));
     let names: BTreeSet<String> = [Error::Size(0, 1), Error::Value("solid"), Error::Memory].map(|it| it.to_string()).into();
     assert_eq!(names.len(), 3);
@@ -130,6 +244,9 @@ fn nothing_panics() {
         let generations = 1 + random.below(8);
         lattice.run(generations).unwrap();
         lattice.run(u64::MAX - random.below(generations)).unwrap_err();
+        let (threads, runs_back) = (random.below(4) as usize, gas == Gas::Hpp || !matches!(chirality, Chirality::Seeded(_)));
+        assert_eq!(lattice.run_by(threads, random.below(3)).is_ok(), threads > 0);
+        assert_eq!(lattice.reverse().is_ok(), runs_back);
         let (w, h) = (random.of(&[0, 1, 7, u32::MAX]), random.of(&[0, 1, 3, u32::MAX]));
         if let Ok(blocks) = lattice.blocks(w, h) {
             assert_eq!(blocks.iter().map(|it| it.particles).sum::<i64>(), particles);
