@@ -1,8 +1,9 @@
 """Runs the commands of the documents as they are printed: a block marked `sh` must end with 0, and if
 the block after it is marked `text`, it must print that. The package is on the path. The blocks of a
 document follow one another in one folder. Those of FIRST are tried by the launcher too, as in a clone
-that has a plain build and no kit. README's lines of Python must draw the picture below them. Each message that docs/TROUBLE.md explains must stand in a source,
-and each start of the page that LESSON and GUIDE name in the page's."""
+that has a plain build and no kit. README's lines of Python must draw the picture below them. Each
+message that docs/TROUBLE.md explains must stand in a source, and each start of the page that LESSON
+and GUIDE name in the page's."""
 
 import importlib.metadata
 import os
@@ -12,6 +13,7 @@ import re
 import shutil
 import subprocess
 import sys
+import tempfile
 
 import needs
 import pytest
@@ -33,14 +35,20 @@ def room(tmp_path):
 
 
 def follow(document, room, environment):
-    """Runs the blocks of a document."""
-    blocks = BLOCK.findall(document.read_text())
+    """Runs the blocks of a document, each in the folder in which the one before ended. Those of the
+    guide write nothing into the folder of the clone."""
+    blocks, before = BLOCK.findall(document.read_text()), {*room.iterdir()}
     known = {"capture_output": True, "text": True, "timeout": needs.PATIENCE, "env": environment}
-    for (kind, commands), (after, text) in zip(blocks, blocks[1:] + [("", "")]):
-        if kind == "sh":
-            ran = subprocess.run(["bash", "-ec", commands], cwd=room, **known)
-            assert (ran.returncode, ran.stderr) == (0, ""), commands
-            assert after != "text" or ran.stdout == text, commands
+    with tempfile.NamedTemporaryFile("r") as place:
+        here = room
+        for (kind, commands), (after, text) in zip(blocks, blocks[1:] + [("", "")]):
+            if kind == "sh":
+                words = ["bash", "-ec", f"{commands}pwd > {place.name}"]
+                ran = subprocess.run(words, cwd=here, **known)
+                assert (ran.returncode, ran.stderr) == (0, ""), commands
+                assert after != "text" or ran.stdout == text, commands
+                here = pathlib.Path(place.name).read_text().removesuffix("\n")
+    assert document.name != "GUIDE.md" or {*room.iterdir()} == before
 
 
 @pytest.mark.parametrize("document", DOCUMENTS, ids=lambda path: path.name)
