@@ -69,7 +69,6 @@ fn main() -> Result<(), Box<dyn std::error::Error>> {
     Ok(())
 }
 END
-printf '[profile.dev.package."*"]\nopt-level = 3\n' >> "$room/new/Cargo.toml"
 cargo_in "$room/new" add --path "$room/packed" --features scenes
 try 'a new project takes it' cargo_in "$room/new" build
 new=$room/new/target/debug/new travel=$room/new/target/debug/travel
