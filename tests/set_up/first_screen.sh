@@ -11,8 +11,8 @@ in_room() { AS=$user tests/set_up/bare_debian.sh "$debian" bash -ec "$1"; }
 prints() { [ "$(in_room "$1")" = "$2" ]; }
 packed='make wheel && make archive FILE=out/fhpgas.tar.gz && DRAFT=yes make release && ls out/fhpgas.tar.gz out/release/SHA256SUMS'
 
+rm -rf "$debian"/{root,home/student}/fhpgas
 for user in root student; do
-    rm -rf "$debian"/{root,home/student}/fhpgas
     try "the shell prints what README says, as $user" prints "$(block sh)" "$(block text)"
     try "and Python draws" in_room "export PYTHONPATH=\$PWD/python; $(printf 'python3 -c %q' "$(block python)"); test -s disc.png"
     try "a case by pytest, as $user" in_room 'python3 -m pytest -q tests/program -k head_on'
