@@ -19,6 +19,9 @@ fi
 if [ ! -d "$room/home/student" ]; then
     debootstrap --variant=minbase bookworm "$room" > /dev/null
     cp /etc/resolv.conf /etc/hosts "$room/etc" # debootstrap makes neither, and a browser wants localhost
+    # an installed Debian has these too, and of the second a newer Rust
+    sed -n 'h; s/ bookworm / bookworm-updates /p; g; s|/debian bookworm |/debian-security bookworm-security |p' "$room/etc/apt/sources.list" \
+        > "$room/etc/apt/sources.list.d/newer.list"
     echo 'APT::Get::Assume-Yes "true";' > "$room/etc/apt/apt.conf.d/yes"
     packages=$(sed -n "/^\`\`\`bash\$/,/^\`\`\`\$/ { /^\`\`\`/!p }" README.md)
     DEBIAN_FRONTEND=noninteractive chroot "$room" bash -ec "apt-get update; $packages" > "$room/packages.log" 2>&1 < /dev/null
