@@ -324,3 +324,44 @@ def test_tail(gas, d, side):
     found = theory.pair_viscosity(gas, d, 64, side, size=112)
     growth, (momenta, staggered) = (found[64] - found[40]) / np.log(64 / 40), grown(gas, d, side)
     assert abs(growth - momenta - staggered) < 0.1 * growth < growth - momenta, growth
+
+
+@pytest.mark.parametrize("d", (0.1, 0.2, 0.3))
+def test_rows(d):
+    """11. What collisions of HPP balance, the flux of a row's momentum, the scale of the law, the
+    stress from its spread, the damping of sound from that, and the lines of thin FHP-I."""
+    h, q = np.log(1 / d - 1), 1e-3
+    east, west = 1 / (1 + np.exp(h - q)), 1 / (1 + np.exp(h + q))
+    flow = boltzmann.Flow("hpp", np.zeros((2, 1)), has_walls=False)
+    chances = np.resize([east, d, west, d], (2, 4)).T[..., None]
+    is_close(flow.collided(chances), chances, 1e-15)
+    more, G = (1 - 2 * d) / (4 * d * (1 - d)), (1 - 2 * d) / (2 * d * (1 - d))
+    is_close((east + west - 2 * d) / (east - west) ** 2 / more, 1, 1e-4)
+    is_close(G * ((east - west) / 2) ** 2, more * (east - west) ** 2 / 2)
+    L = 2**0.5 * (1 - 2 * d) / np.sqrt(d * (1 - d))
+    is_close(2 * 2**0.5 * G * np.sqrt(d * (1 - d)), L)
+    spread = lambda t: 2 * d * (1 - d) * 0.5105 * (L * t) ** (4 / 3)
+    t = 500.0
+    flux = (spread(t + 1) - 2 * spread(t) + spread(t - 1)) / 2
+    left = lambda t: 2 / 9 * 0.5105 * L ** (4 / 3) * t ** (-2 / 3)
+    is_close(2 * flux / (4 * d * (1 - d)) / left(t), 1, 1e-5)
+    w, roots = 0.01, (np.arange(400_000) + 1 / 2) / 2000  # t = root^3: no pole at 0
+    waves = np.exp((1j - 0.05) * w * roots**3)  # fades, and Gamma(1/3) (fading - i)^(-1/3)
+    summed = (left(roots**3) * waves * 3 * roots**2).sum() / 2000 / 4
+    wanted = 0.0284 * L ** (4 / 3) * 2.6789385 * w ** (-1 / 3) * (0.05 - 1j) ** (-1 / 3)
+    is_close(summed / wanted, 1, 2e-3)
+    is_close(np.angle((-1j) ** (-1 / 3)), np.pi / 6)
+
+
+def test_thin_lines():
+    """9. The mean D of lines at d = 0.02, and the viscosity of a thin gas by the law of rows."""
+    L = lambda d: 2**0.5 * (1 - 2 * d) / np.sqrt(d * (1 - d))
+    mean = 0.2553 * L(0.02) ** (4 / 3) * np.array([162, 325, 650]) ** (1 / 3)
+    is_close(mean, [28.8, 36.3, 45.7], 2e-3)
+    for d in 1e-7, 1e-8:
+        root, step = np.linspace(0, (20 / staggered_share(d)) ** (1 / 3), 200_001, retstep=True)
+        t = root**3
+        more = 4 / 9 * 0.2553 * L(d) ** (4 / 3) * np.exp(-2 * staggered_share(d) * t / 3)
+        is_close((3 * more).sum() * step / 4 / (0.076 * d ** (-4 / 3)), 1, 3e-3)
+    d = 0.0048
+    is_close(0.076 * d ** (-4 / 3) / (3 / (8 * np.sqrt(d)) / (12 * d)), 1, 0.01)

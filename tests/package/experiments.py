@@ -17,9 +17,11 @@ from PIL import Image
 
 sys.path.insert(0, str(needs.ROOT / "experiments"))
 
+import rows as rows_script
 import street as street_script
 from common import FLUIDS, GASES
 from fhpgas import Fault, Lattice, boltzmann, theory
+from scipy.special import airy
 
 SIGNS = {"seeded": 0, "left": -1, "right": 1}
 LINE = re.compile(r"^(.*?) +measured +(\S+) \+- (\S+)  theory +(\S+)$", re.M)
@@ -250,6 +252,65 @@ def test_drags():
     assert abs(slow / wanted - 0.95) < 0.1 and error < 0.1 * wanted, output
     ((reynolds, drag),) = re.findall(r"Reynolds (\S+): C +measured +(\S+)", output)[-1:]
     assert float(drag) * float(reynolds) / 2 > 1.1 * wanted, output
+
+
+def test_rows():
+    """The momentum of a row spreads by the law of HPP, to which nothing is fitted, at the longest
+    time within a twentieth and ever nearer. At d = 1/2 it spreads as heat."""
+    output = printed("rows.py --small")
+    lines = [(name, *map(float, rest)) for name, *rest in LINE.findall(output)]
+    widths = [line[1:] for line in lines if line[0].endswith("width / w")]
+    assert [wanted for *_, wanted in widths] == [1, 1, 1], output
+    assert widths[0][0] > widths[1][0] > widths[2][0] and abs(widths[2][0] - 1) < 0.08, output
+    stresses = [line[1:] for line in lines if line[0].endswith("stress left")]
+    for measured, error, wanted in stresses[1:]:
+        assert abs(measured - wanted) < ERRORS * error + 0.1 * wanted, output
+        assert error < wanted / 2, output
+    heat = np.array(re.findall(r"D (\S+) \+- (\S+)", output), float)
+    assert len(heat) == 3 and abs(heat[1, 0] - heat[2, 0]) < ERRORS * np.hypot(*heat[1:, 1]), output
+
+
+def test_the_function_of_rows():
+    """The function's double integral is the variance of P. L. Ferrari and H. Spohn's distribution,
+    Commun. Math. Phys. 265 (2006) 1, from its Fredholm determinants. Its fourth part is f'' = 4 f."""
+    y, step = np.linspace(0, 1, 1001, retstep=True)
+    inner = (1 - y) * rows_script.scaling(y)
+    summed = 1.1503945 + 4 * step * (inner.sum() - inner[0] / 2)
+    assert abs(summed / variance_of_heights(1.0) - 1) < 1e-4
+
+
+def variance_of_heights(w):
+    """Of the stationary growth at w: s^2 summed over the distribution F = H'."""
+    step, end = 0.25, 9
+    heights = np.array([height(s, w) for s in np.arange(-10, end + step, step)])
+    slope = np.polyfit([0, 1, 2], heights[-3:], 1)[0] / step
+    whole = step * (heights.sum() - heights[-1] / 2) - step**2 * slope / 12
+    return end**2 * slope - 2 * end * heights[-1] + 2 * whole
+
+
+def height(s, w):
+    """H(s) = F_GUE(s + w^2) g(s + w^2, w), by Gauss's quadrature on both sides of 0."""
+    (x, dx), (z, dz), s = half_line(16, 48), half_line(-40 / w, int(90 + 80 / w)), s + w * w
+    kernel, waves = airy_kernel(x[:, None] + s, x + s), np.exp(w * z) * dz
+    phi = waves @ airy_kernel(z[:, None] + s, x + s)
+    psi = waves @ airy(z[:, None] + x + s)[0]
+    inverse = np.linalg.solve(np.eye(len(x)) - kernel * dx, psi)
+    both = waves @ (-z * airy(z + s)[0]) + (dx * phi) @ inverse
+    determinant = np.linalg.det(np.eye(len(x)) - kernel * dx)
+    return determinant * np.exp(w * s - w**3 / 3) * both
+
+
+def half_line(end, number):
+    nodes, weights = np.polynomial.legendre.leggauss(number)
+    return end * (nodes + 1) / 2, abs(end) * weights / 2
+
+
+def airy_kernel(a, b):
+    """Airy's kernel (Ai(a) Ai'(b) - Ai'(a) Ai(b)) / (a - b)."""
+    (A, slope_a), (B, slope_b), apart = airy(a)[:2], airy(b)[:2], a - b
+    is_same = abs(apart) < 1e-9
+    away = (A * slope_b - slope_a * B) / np.where(is_same, 1, apart)
+    return np.where(is_same, slope_a**2 - a * A**2, away)
 
 
 def test_keeps():
