@@ -96,15 +96,13 @@ def main():
     fillings = common.number(0.05, 0.5), [0.2, 0.5], [0.2, 0.5], "fillings, one or more"
     reader.option("--filling", *fillings, metavar="D")
     reader.option("--columns", common.whole(256, 65536), 4096, 1024, "columns")
-    reader.option(
-        "--rows", common.whole(256, 16384), 1024, 512, "rows, four times as many for the stress"
-    )
+    rows, text = common.whole(256, 16384), "rows; the stress has four times as many"
+    reader.option("--rows", rows, 1024, 512, text)
     asked, found = reader.parse_args(), []
     asked.times = [16, 64, 256, 1024, 2048][: 3 if asked.small else 5]
     for rows in (Rows(asked, filling) for filling in asked.filling):
-        runs, stress = common.runs(rows.correlated, asked), []
-        if rows.fast:
-            stress = np.array(common.runs(rows.stressed, asked))
+        runs = common.runs(rows.correlated, asked)
+        stress = np.array(common.runs(rows.stressed, asked) if rows.fast else [])
         for n, time in enumerate(asked.times):
             name = f"d {rows.filling}, t {time}"
             widths = np.array([rows.fitted(run[n], time) for run in runs])

@@ -2,6 +2,8 @@
 of the package, for several fillings, and the slip and the viscosity at a wave number against the
 modes of a generation."""
 
+from math import comb
+
 import needs
 import pytest
 
@@ -365,3 +367,18 @@ def test_thin_lines():
         is_close((3 * more).sum() * step / 4 / (0.076 * d ** (-4 / 3)), 1, 3e-3)
     d = 0.0048
     is_close(0.076 * d ** (-4 / 3) / (3 / (8 * np.sqrt(d)) / (12 * d)), 1, 0.01)
+
+
+@pytest.mark.parametrize("gas", ("fhp1", "fhp-rest"))
+@pytest.mark.parametrize("d", FILLINGS)
+def test_tagged(gas, d):
+    """10. The share of its velocity that a particle keeps in a collision, over all states."""
+    named, states = gas_named(gas), np.arange(1 << gas_named(gas).directions)
+    bits, b = named.bits[states].astype(float), named.directions
+    chances = np.where(bits, d, 1 - d).prod(1) * bits[:, 0] / d
+    velocity = bits @ named.velocities[:, 0] / np.maximum(1, bits.sum(1))
+    others = np.arange(b)
+    shares = np.array([comb(b - 1, m) * d**m * (1 - d) ** (b - 1 - m) for m in others])
+    kappa = shares @ ((1 - others / (b - 1)) / (others + 1))
+    is_close(chances @ velocity, kappa)
+    is_close(chances @ bits @ named.velocities[:, 0], 1 - d)

@@ -313,6 +313,20 @@ def airy_kernel(a, b):
     return np.where(is_same, slope_a**2 - a * A**2, away)
 
 
+def test_remembers():
+    """A tagged particle forgets at first as Boltzmann says, later less, as the tail with its amplitude, of which a third is
+    missing yet at 32."""
+    output = printed("tagged.py --small")
+    found = {name: [*map(float, rest)] for name, *rest in LINE.findall(output)}
+    for time in 1, 2:
+        measured, error, wanted = found[f"C after {time} and Boltzmann"]
+        assert abs(measured - wanted) < ERRORS * error < 0.1 * wanted, output
+    measured, error, wanted = found["t C, mean up to 32, tail"]
+    assert ERRORS * error < measured and abs(measured / wanted - 1) < 0.35, output
+    measured, error, wanted = found["D up to 32 and Boltzmann"]
+    assert wanted + ERRORS * error < measured < 1.1 * wanted, output
+
+
 def test_keeps():
     output = printed("invariants.py --small")
     row = re.compile(r"^ +\d+ +(\S+) +(\S+)  (\(.*\))$", re.M)
