@@ -1,11 +1,13 @@
 // What the controls do.
 import { applyState, hasText, isShort, refusal, setControl, showOpened, sizes, startText, stateText, writeAddress } from "./address.js";
+import { curve } from "./curve.js";
 import { record, save } from "./files.js";
 import { GASES } from "./gases.js";
 import { closer, fit, looked, paced } from "./look.js";
 import { spelled } from "./message.js";
 import { count } from "./numbers.js";
 import { paintNumbers } from "./panel.js";
+import { textOf } from "./probe.js";
 import { repaint, tellNumbers, update } from "./screen.js";
 import { $, amount, asked, chosen, element, head, isFile, isStill, look, marks, motion, preset, shown, source, tell, view } from "./state.js";
 import { go, keepOn, move } from "./time.js";
@@ -40,7 +42,10 @@ export function start(hasLength = false, lengths = "", isTurned = false) {
 }
 
 /** A message as it was sent, perhaps with one particle turned, and on the way back. */
-export const again = (isTurned) => start(false, "", isTurned);
+export function again(isTurned) {
+  curve.isAgain = true;
+  start(false, "", isTurned);
+}
 
 function write() {
   const text = spelled($("text").value), why = refusal(text);
@@ -70,15 +75,9 @@ function half() {
   repaint();
 }
 
-/** Takes away what was said of the cells before. */
-function silence() {
-  hideNotes();
-  if (hasText() && !shown.isOpened) introduce();
-}
-
 /** Goes back, if all flows can, or offers a way on. */
 function back(command) {
-  silence();
+  hideNotes();
   if (shown.frames.some(({ canReverse }) => !canReverse)) {
     const why = "Pairs turn at random here, and their random bits only run forwards.";
     const offer = element("button", { id: "offer" }, "Go on with left");
@@ -176,6 +175,7 @@ export const acts = {
   bare,
   drawer: () => bodyClass.toggle("opened"),
   save: command("save"),
+  samples: () => marks.probe && save(new Blob([textOf(marks.samples, marks.probe)]), `${head().gas}-probe.txt`),
   film: () => record(update),
   picture: () => view().toBlob((blob) => blob && save(blob, `${head().gas}-${head().generation}.png`)),
   link,
@@ -187,7 +187,7 @@ export const acts = {
   length: () => tellNumbers(0),
   back: () => back("back"),
   play: () => {
-    silence();
+    hideNotes();
     go(!shown.isRunning);
   },
   step,

@@ -60,7 +60,6 @@ export function stateText() {
 }
 
 export const sizes = () => $("size").value.split(" x ").map(Number);
-
 /** Why the lattice of the controls has no room for a text, or "". */
 export const refusal = (text, [width, height] = sizes()) => refusalOf(text, width, (height - 1) * GASES[$("gas").value].apart);
 
@@ -110,7 +109,6 @@ export function showOpened(isOpened) {
 }
 
 export const isForeign = () => location.hash !== written;
-
 export const isShort = () => head().lengths.length < MOST_RUNS;
 
 /** The state of the controls, and what was drawn. */

@@ -1,14 +1,17 @@
-// The chart of the probe.
+// The chart below the picture: of the probe, or the curve of the entropy.
+import { hasCurve, paintCurve, wordsOfCurve } from "./curve.js";
 import { contextOf, line, nice, theme, write } from "./draw.js";
-import { count, round, strouhal } from "./numbers.js";
+import { STREET, count, round, strouhal } from "./numbers.js";
 import { LEAST_PERIODS, periodOf } from "./probe.js";
-import { $, amount, head, marks, setText } from "./state.js";
+import { $, amount, head, marks, preset, setText } from "./state.js";
+
+/** The period that a street has, of a preset that says so. */
+const streetOf = ({ turnover = 0 }) => (preset().theory === "street" && turnover ? turnover / STREET : 0);
 
 function linesOf(numbers) {
-  const { g, turnover, speed } = numbers;
-  const { blockage, incoming } = head(), radius = marks.probe?.radius ?? 0, length = amount("length");
+  const { g, turnover, speed } = numbers, known = streetOf(numbers), { blockage, incoming } = head(), radius = marks.probe?.radius ?? 0, length = amount("length");
   const period = g && turnover ? periodOf(marks.samples, turnover) : null;
-  const lines = [`of a disc of ${round(2 * radius)} cells`];
+  const lines = [`of a disc of ${round(2 * radius)} cells`, ...(known ? [`a street of St = ${STREET}: T = ${count(Math.round(known))}`] : [])];
   if (!period || !g) lines.push(`no period yet: ${LEAST_PERIODS} alike are asked for`);
   else {
     const met = period.incoming ?? incoming, shown = (by) => {
@@ -24,16 +27,24 @@ function linesOf(numbers) {
 
 /** @param {ReturnType<import("./numbers.js").numbersOf>} numbers */
 export function paintChart(numbers) {
-  const { samples } = marks;
-  $("probed").hidden = !marks.probe;
-  if (!marks.probe) return;
-  const { width: wide, height: tall, context: c } = contextOf($("chart"), true), [width, height] = [wide, tall].map((size) => size / theme.unit);
+  const isCurve = !marks.probe && hasCurve(), chart = $("chart");
+  $("probed").hidden = !marks.probe && !isCurve;
+  if ($("probed").hidden) return;
+  $("probed").className = isCurve ? "curve" : "";
+  $("parts").hidden = isCurve;
+  setText($("found"), isCurve ? wordsOfCurve() : linesOf(numbers).join("\n"));
+  chart.setAttribute("aria-label", isCurve ? "the entropy over time, there and back" : "the velocity at the probe over time");
+  const { width: wide, height: tall, context: c } = contextOf(chart, true), [width, height] = [wide, tall].map((size) => size / theme.unit);
   c.scale(theme.unit, theme.unit);
   c.clearRect(0, 0, width, height);
-  setText($("found"), linesOf(numbers).join("\n"));
-  if (!samples.length) return;
   const box = { left: 58, right: width - 28, top: 10, bottom: height - 24 };
-  const values = samples.flatMap(({ u, v }) => [u, v]);
+  if (isCurve) paintCurve(c, box);
+  else if (marks.samples.length) paintSamples(c, box, streetOf(numbers));
+}
+
+/** The samples, and above them as long a line as a street's period. */
+function paintSamples(c, box, known) {
+  const { samples } = marks, values = samples.flatMap(({ u, v }) => [u, v]);
   const least = Math.min(0, ...values), largest = Math.max(0.01, ...values);
   const step = nice((largest - least) / 2.5), low = Math.floor(least / step), high = Math.ceil(largest / step);
   const first = samples[0].generation, last = Math.max(first + 1, samples[samples.length - 1].generation);
@@ -46,6 +57,11 @@ export function paintChart(numbers) {
   const ticks = nice(Math.max(1, (last - first) / 3));
   for (let at = Math.ceil(first / ticks) * ticks; at <= last; at += ticks) {
     write(c, count(at), X(at), box.bottom + 18, { font: "13px", align: "center" });
+  }
+  if (known && known < last - first) {
+    c.setLineDash([9, 8]);
+    line(c, [last - known, last].map((at) => [X(at), box.top]), theme.meets, 3);
+    c.setLineDash([]);
   }
   for (const part of ["u", "v"]) {
     line(c, samples.map((sample) => [X(sample.generation), Y(sample[part])]), theme[part], 2);

@@ -3,10 +3,9 @@ import { HELP, KEY_NAMES } from "./help.js";
 import { $, element, setText } from "./state.js";
 
 /**
- * @typedef {{ id: string, key: string, label: string, kind: "button" | "list" | "range" | "number" | "text" | "check",
- *   style?: string, act?: () => void, isLate?: boolean, options?: string[][],
- *   attributes?: Record<string, string | number>, said?: (value: number) => string, isPressed?: () => boolean,
- *   isOff?: () => boolean, isHidden?: () => boolean, isWaiting?: () => boolean, text?: () => string }} Control
+ * @typedef {{ id: string, key: string, label: string, kind: "button" | "list" | "range" | "number" | "text" | "check", style?: string,
+ *   act?: () => void, isLate?: boolean, options?: string[][], attributes?: Record<string, string | number>, text?: () => string,
+ *   said?: (value: number) => string, isPressed?: () => boolean, isOff?: () => boolean, isHidden?: () => boolean, isWaiting?: () => boolean }} Control
  *   a slider that `isLate` acts when it is let go; `said` are the words for a value, `text` is a label that changes
  * @typedef {{ title: string, place: string, controls: Control[] }} Group
  */

@@ -8,7 +8,6 @@ const LONG = 2048; // columns of a lattice whose blocks are larger
 const blockOf = (width) => (width > LONG ? [64, 72] : [32, 36]); // columns and rows
 const STEPS = [0.004, 0.02, 0.02]; // of the filling above that of all, and of the velocity
 const ZERO = 32; // the letter of 0
-
 /** The sums of the blocks of a flow. @param {Flow} flow */
 export const sumsOf = (flow) => /** @type {any} */ (gathered(flow.sums(32, 36), ...blockOf(flow.cells.width)));
 

@@ -4,7 +4,7 @@ const LETTERS = 15; // pixels for which the canvases are laid out
 
 /** The colours of the page, of the light or the dark scheme, and the size of its letters as a multiple of the usual one. */
 export const theme = { isDark: false, unit: 1, font: "",
-  ink: "", paper: "", wall: "", arrow: "", meets: "", faint: "", u: "", v: "" };
+  ink: "", paper: "", wall: "", arrow: "", meets: "", faint: "", soft: "", u: "", v: "" };
 const COLOURS = Object.keys(theme).slice(3);
 
 export function readTheme() {

@@ -9,18 +9,16 @@ import { Stroke } from "./tools.js";
 
 const MOST_UNDO = 50, MOST_STARTS = 4; // of which each keeps a lattice
 
-/** @typedef {{ what: string, undo: () => void, redo: () => void }} Done */
-
 export class Experiment {
   make = /** @type {MakeKernel} */ (() => { throw new Error("there is no kernel"); });
   watched = /** @type {Watched[]} */ ([]);
   state = ""; // of the controls, with these flows
   serial = 0;
   asked = 0; // the start of the page's that was made last
-  past = /** @type {Done[]} */ ([]); // what can be undone, as the button says it
-  undone = /** @type {Done[]} */ ([]); // and what can be done again
-  strokes = /** @type {Map<Flow, Stroke>} */ (new Map()); // what is being drawn, and its pieces
-  pieces = /** @type {Piece[]} */ ([]);
+  past = /** @type {{ what: string, undo: () => (() => void) }[]} */ ([]); // what can be undone, as the button says it
+  undone = /** @type {{ what: string, redo: () => void }[]} */ ([]); // and what can be done again
+  strokes = /** @type {Map<Flow, Stroke>} */ (new Map()); // what is being drawn
+  pieces = /** @type {Piece[]} */ ([]); // of it
 
   /** Takes the module of a text: all flows go on in it. */
   async take(text) {
@@ -39,9 +37,9 @@ export class Experiment {
     for (const { flow, twin } of watched) [flow, twin].forEach((one) => one?.moveTo(this.make));
   }
 
-  /** What was done can be undone, the last first, and then done again, which adds it here again. */
-  did(what, undo, redo) {
-    this.past.push({ what, undo, redo });
+  /** What was done can be undone, the last first. To undo it returns what does it again. */
+  did(what, undo) {
+    this.past.push({ what, undo });
     this.undone = [];
     const starts = this.past.flatMap((one, k) => (/start|gas/.test(one.what) ? k : []));
     const oldest = starts.length > MOST_STARTS ? starts[starts.length - MOST_STARTS] : 0;
@@ -57,18 +55,17 @@ export class Experiment {
   }
 
   keepOld(what) {
-    const { watched, state } = this, back = (before) => {
-      this.move(before.watched);
-      this.show(before.watched, before.state);
-    };
-    let after = { watched, state };
+    const { watched, state } = this;
     this.did(what, () => {
-      after = { watched: this.watched, state: this.state };
-      back({ watched, state });
-    }, () => {
-      this.keepOld(what);
-      back(after);
+      const late = [this.watched, this.state];
+      this.back(watched, state);
+      return () => (this.keepOld(what), this.back(...late));
     });
+  }
+
+  back(watched, state) {
+    this.move(watched);
+    this.show(watched, state);
   }
 
   show(watched, state) {
@@ -126,8 +123,11 @@ export class Experiment {
     });
     if (!piece.end) return;
     const strokes = [...this.strokes].filter(([, { flips }]) => flips.size), pieces = this.pieces.splice(0);
-    const undo = () => strokes.forEach(([flow, stroke]) => stroke.undo(flow));
-    if (strokes.length) this.did("stroke", undo, () => pieces.forEach((one) => this.stroke(one)));
+    const undo = () => {
+      strokes.forEach(([flow, stroke]) => stroke.undo(flow));
+      return () => pieces.forEach((one) => this.stroke(one));
+    };
+    if (strokes.length) this.did("stroke", undo);
     this.strokes.clear();
   }
 
@@ -135,7 +135,10 @@ export class Experiment {
   act(what, act) {
     const undone = /** @type {(() => void)[]} */ ([]);
     this.each((flow) => undone.push(act(flow)));
-    this.did(what, () => undone.forEach((undo) => undo()), () => this.act(what, act));
+    this.did(what, () => {
+      undone.forEach((undo) => undo());
+      return () => this.act(what, act);
+    });
   }
 
   /** Flips one particle, and goes on beside it without this flip. */
@@ -145,14 +148,14 @@ export class Experiment {
     this.did("turn", () => {
       for (const watched of this.watched) watched.cone = null;
       undone.forEach((undo) => undo());
-    }, () => this.flip(at));
+      return () => this.flip(at);
+    });
   }
 
   undo() {
     for (const watched of this.watched) watched.twin = null;
     const last = this.past.pop();
-    last?.undo();
-    if (last) this.undone.push(last);
+    if (last) this.undone.push({ what: last.what, redo: last.undo() });
   }
 
   redo() {

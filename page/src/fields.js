@@ -20,21 +20,25 @@ const APART = 4, SAMPLES = 4000; // blocks of TimeMean.noise
 
 /**
  * All that there is of each field: `fill` writes the value of each block, NaN if it has none; `most` is the largest value, if
- * there is one.
+ * there is one; `isByRows` that blocks are one row high.
  * @type {Record<string, { key: string, legend: string, palette: Int32Array[], fill: (means: TimeMean, out: Float64Array) => void,
- *   isSigned?: boolean, most?: number }>}
+ *   isSigned?: boolean, isByRows?: boolean, most?: number }>}
  */
 export const FIELDS = {
   speed: { key: "1", legend: "speed |u|, cells per generation", palette: SEQUENTIAL, fill: speed },
-  vorticity: { key: "2", legend: "vorticity, 1/generation: red anticlockwise", palette: RED_BLUE, fill: vorticity,
-    isSigned: true },
-  difference: { key: "6", legend: "cells that differ from the gas without the turn", palette: SEQUENTIAL, fill: difference,
-    most: 1 },
+  vorticity: { key: "2", legend: "vorticity, 1/generation: red anticlockwise", palette: RED_BLUE, fill: vorticity, isSigned: true },
+  difference: { key: "6", legend: "cells that differ from the gas without the turn", palette: SEQUENTIAL, fill: difference, most: 1 },
+  momentum: { key: ",", legend: "momentum eastwards per cell, by rows", palette: RED_BLUE, fill: momentum, isSigned: true, isByRows: true },
   density: { key: "3", legend: "filling d, from its mean", palette: ORANGE_PURPLE, fill: density, isSigned: true },
 };
 
 function speed({ u, v }, out) {
   for (let i = 0; i < out.length; i++) out[i] = Math.sqrt(u[i] * u[i] + v[i] * v[i]);
+}
+
+function momentum({ parts, gas: { units } }, out) {
+  const [cells, , px] = parts;
+  for (let i = 0; i < out.length; i++) out[i] = cells[i] ? (px[i] * units[0]) / cells[i] : NaN;
 }
 
 function difference({ unlike, parts }, out) {

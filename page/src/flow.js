@@ -1,6 +1,7 @@
 // A gas that runs: its cells, the drive, and the way back, on which what was done to the cells is undone.
 import { Cells } from "./cells.js";
 import { Drive } from "./drive.js";
+import { entropyOf } from "./entropy.js";
 import { OTHER, SOLID, reversedStates } from "./gases.js";
 import { CELL, History, WAS_SOLID } from "./history.js";
 import { copied, sidesOf } from "./kernel.js";
@@ -12,6 +13,8 @@ export class Flow {
   changes = 0; // counts what happens to the cells
   isDisturbed = false; // something was changed that the way back does not undo
   isMessage = false; // nothing that is done to its cells is undone on the way back
+  stripe = /** @type {(() => number[]) | null} */ (null);
+  way = /** @type {number[][]} */ ([]); // generations and entropies of a message, until it is noise
   late = new Set(); // strokes on the way back
   found = /** @type {number | null} */ (null); // cells that differ from the first ones, once the gas is back
   notes = /** @type {string[]} */ ([]); // what the page is to say
@@ -146,11 +149,22 @@ export class Flow {
    * collide before they are reversed, and at the end collide back, to the other side. docs/PROVED.md has the proof.
    */
   reverseCells() {
-    const { reversed, sides, chirality, direction } = this, side = chirality === "left" ? sides.left : sides.right;
     this.changes++;
-    this.kernel.change(direction > 0 ? side.map((state) => reversed[state]) : reversed.map((state) => side[state]));
-    this.chirality = OTHER[chirality];
+    this.kernel.change(this.turned);
+    this.chirality = OTHER[this.chirality];
     this.direction *= -1;
+  }
+
+  get turned() {
+    const { reversed, sides, chirality, direction } = this, side = chirality === "left" ? sides.left : sides.right;
+    return direction > 0 ? side.map((state) => reversed[state]) : reversed.map((state) => side[state]);
+  }
+
+  /** The entropy of the cells as they are forwards in time, so that the way back has those of the way there. */
+  get entropy() {
+    const { kernel, kernel: { solid, width, height, per, gas }, direction } = this, cells = direction > 0 ? kernel.cells : kernel.cells.slice();
+    if (direction < 0) kernel.change(this.turned, cells);
+    return entropyOf({ cells, solid, width, height, per, gas });
   }
 
   /** Some generations back, to the start at most. */

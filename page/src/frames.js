@@ -1,5 +1,5 @@
 // What the page is sent of a flow: numbers, a field, the cells of a window, the probe.
-import { TimeMean } from "./fields.js";
+import { FIELDS, TimeMean } from "./fields.js";
 import { Flow } from "./flow.js";
 import { SOLID, velocities } from "./gases.js";
 import { copied } from "./kernel.js";
@@ -9,6 +9,8 @@ import { MeanVelocity } from "./velocity.js";
 import { sumsOf } from "./sums.js";
 import { flipOne } from "./tools.js";
 
+const SHARE = 0.03; // of the time that entropies take at most
+
 /** A flow as it is looked at. */
 export class Watched {
   twin = /** @type {Flow | null} */ (null); // the same gas in which no particle was flipped
@@ -16,6 +18,7 @@ export class Watched {
   lengths = ""; // what was drawn
   direction = 1; // of the means
   cone = /** @type {Place | null} */ (null); // where a particle was flipped, to be compared
+  due = 0; // when the next entropy may be counted
 
   /** @param {Flow} flow */
   constructor(flow) {
@@ -90,11 +93,20 @@ export class Watched {
     return { x: x0, y: y0, width, height, before, after };
   }
 
+  /** The entropy of cells that rest or have come back, and of others if it is due. */
+  entropy(isMoving) {
+    const begun = performance.now();
+    if (isMoving && begun < this.due) return null;
+    const { entropy } = this.flow, end = performance.now();
+    this.due = end + (end - begun) / SHARE;
+    return entropy;
+  }
+
   /** The means over blocks and time of what is looked at. */
   means({ smooth, span, field }, generations, sums) {
     const { mean } = this;
     mean.add(sums, span > 1 ? Math.exp(-generations / span) : 0);
-    mean.look(smooth);
+    mean.look(FIELDS[field].isByRows ? 0 : smooth);
     mean.unlike = field === "difference" ? this.differences(sums.width, sums.height) : null;
     return mean;
   }
@@ -108,7 +120,7 @@ export class Watched {
       velocity.look();
       this.lengths = shape ? lengthsOf(walls, shape) : "";
     }
-    const sums = flow.sums(view.block, flow.tall(view.block));
+    const sums = flow.sums(view.block, FIELDS[view.field].isByRows ? 1 : flow.tall(view.block));
     if (generations || !velocity.generations) velocity.add(generations, sums);
     const mean = this.means(view, generations, sums), [fluid, particles, px, py] = flow.totals(), all = particles || 1;
     const [blown, force] = direction > 0 ? [drive.velocity, drive.force] : [null, null];
@@ -128,6 +140,8 @@ export class Watched {
       block: mean.width, blockRows: mean.height, cells: view.window && this.windowed(view.window),
       walls, // solid cells as a plane, if they changed
       lengths: this.lengths, probe: this.probed,
+      entropy: view.hasEntropy ? this.entropy(generations > 0 && found === null) : null, way: flow.way,
+      stripe: flow.stripe?.() ?? [],
     };
   }
 }

@@ -39,13 +39,10 @@ function gasOf(name, row = TABLE[name]) {
 /** @typedef {ReturnType<typeof gasOf>} Gas */
 /** @type {Record<string, Gas>} the gases by their names */
 export const GASES = Object.fromEntries(Object.keys(TABLE).map((name) => [name, gasOf(name)]));
-
 /** @type {Record<Chirality, Chirality>} the chirality that undoes a collision. */
 export const OTHER = { left: "right", right: "left", seeded: "seeded" };
-
 /** The particles' velocities by direction, eastwards and northwards. */
 export const velocities = ({ momenta, units }) => momenta.map(([x, y]) => [x * units[0], y * units[1]]);
-
 /** What is made of every state. A solid cell stays. */
 export const table = (ofState) => Uint8Array.from({ length: 256 }, (_, state) => (state < SOLID ? ofState(state) : state));
 

@@ -85,8 +85,8 @@ export class Kernel {
   }
 
   /** Makes of the state of every cell what a table says: of cells x, x + 8, x + 16 and x + 24 at once. */
-  change(table) {
-    const { cells, per, gas: { directions } } = this, made = new Int32Array(directions);
+  change(table, cells = this.cells) {
+    const { per, gas: { directions } } = this, made = new Int32Array(directions);
     for (let row = 0; row < cells.length; row += directions * per) {
       for (let word = row; word < row + per; word++) {
         made.fill(0);

@@ -33,7 +33,6 @@ export function block(state, out, at) {
 }
 
 const words = (value) => new Int32Array(BigUint64Array.of(BigInt(value)).buffer);
-
 /** Room for whole blocks with so many words. */
 export const blocks = (words) => new Int32Array(Math.ceil(words / 16) * 16);
 

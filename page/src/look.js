@@ -1,5 +1,6 @@
 // Where one looks: at a part of the lattice, near or far.
 import { setControl } from "./address.js";
+import { hasCurve } from "./curve.js";
 import { repaint, screen, update } from "./screen.js";
 import { $, NEAR, amount, chosen, head, look, paneWidth, shown, tell, view } from "./state.js";
 import { stripHeight } from "./strip.js";
@@ -57,7 +58,7 @@ export function closer(factor) {
 export function looked() {
   const [block, smooth] = BLOCKS[amount("smooth")], { place: { x, y, scale } } = look;
   /** @type {View} */
-  const wanted = { field: chosen.field, block, smooth, span: SPANS[amount("span")], window: null };
+  const wanted = { field: chosen.field, block, smooth, span: SPANS[amount("span")], window: null, hasEntropy: hasCurve() };
   if (shown.frames.length && scale >= NEAR) {
     const { clientWidth, clientHeight } = view(), { apart } = head();
     const [left, top] = [x, y / apart].map((part) => Math.floor(part) - 1);

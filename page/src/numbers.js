@@ -4,12 +4,10 @@ import { GASES } from "./gases.js";
 const FEW = 100; // particles that are no fluid
 const RING = 40; // generations after which a burst is a ring
 export const MOST_MACH = 0.4; // above it the density follows the speed
-
 const signed = (text) => text.replace(/^-(?=.*[1-9])/, "−").replace("-", "");
 export const count = (whole) => String(whole).replace(/\B(?=(\d{3})+$)/g, ","); // Intl takes long to begin
 export const fixed = (value, digits) => signed(value.toFixed(digits));
-export const round = (value, digits = 3) =>
-  signed(String(Math.abs(value) < 1e-9 ? 0 : Number(value.toPrecision(digits))));
+export const round = (value, digits = 3) => signed(String(Math.abs(value) < 1e-9 ? 0 : Number(value.toPrecision(digits))));
 
 /**
  * Boltzmann's shear viscosity, (1 / lambda - 1/2) / 4: collisions undo the share lambda of a shear in a generation. It
@@ -23,7 +21,7 @@ export function viscosity({ share }, d, chirality) {
 
 /** The factor of u grad u in the momentum equation (the same source). */
 const galilean = (directions, d) => ((directions / 12) * (1 - 2 * d)) / (1 - d);
-
+export const STREET = 0.25; // the Strouhal number of a street
 export const strouhal = (length, period, g, speed) => length / (period * g * speed);
 
 /**
@@ -45,10 +43,18 @@ export function frontOf({ field, pixels, columns, rows, width, height, apart, bl
   return ((out - (half - means[out]) / (means[out - 1] - means[out])) * block - radius) / generation;
 }
 
+/** The speed of rows as a part of the mean, the rows in their middles, and the fastest of them. @param {Frame} frame */
+export function profileOf({ height, velocity: { columns, rows, u, height: tall } }) {
+  const ends = Array.from({ length: rows + 1 }, (_, k) => Math.min(height, k * tall)), of = (make) => ends.slice(1).map((end, k) => make(k, ends[k], end));
+  const speeds = of((k) => u.slice(k * columns, (k + 1) * columns).reduce((a, b) => a + b, 0) / columns);
+  const mean = of((k, from, to) => speeds[k] * (to - from)).reduce((a, b) => a + b, 0) / height, means = speeds.map((speed) => speed / mean);
+  return { means, middles: of((_, from, to) => (from + to) / 2), fastest: Math.max(...means) };
+}
+
 /**
  * What is known of a flow, in which numbers that a gas does not have are undefined. @param {number} length of Reynolds
- * @returns {{ filling: number, speed: number, mach: number, fastestMach: number, g?: number, nu?: number,
- *   reynolds?: number, isCorrelated?: boolean, turnover?: number, warnings: string[] }}
+ * @returns {{ filling: number, speed: number, mach: number, fastestMach: number, g?: number, nu?: number, reynolds?: number,
+ *   isCorrelated?: boolean, turnover?: number, warnings: string[] }}
  */
 export function numbersOf({ gas, directions, particles, fluid, u, v, chirality, fastest }, length) {
   const filling = particles / fluid / directions, speed = Math.hypot(u, v), { sound, fluid: kind } = GASES[gas], warnings = [];

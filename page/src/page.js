@@ -71,25 +71,16 @@ worker.onmessage = ({ data }) => answers[/** @type {keyof Answers} */ (data.name
 worker.onerror = ({ message }) => note(`A mistake in this page: ${message}`, "bad");
 screen.take = take;
 makeHelp($("help").lastElementChild, makeControls(tableOf(acts), update));
-takeFiles((text) => tell("open", { text, state: OPENED }), (start) => {
-  if (location.hash.slice(1) === start) begin();
-  else location.hash = start;
-});
+takeFiles((text) => tell("open", { text, state: OPENED }), (start) => location.hash.slice(1) === start ? begin() : (location.hash = start));
 listenToPointers();
 new ResizeObserver(() => {
   readTheme();
   $("note").style.bottom = `${stripHeight(view().clientWidth) + 6}px`;
   if (shown.frames.length) look.isWhole ? fit() : looked();
 }).observe(view());
-$("numbers").onclick = ({ target }) => {
-  const { title } = target.closest("div");
-  if (title) note(title, "", 9);
-};
+$("numbers").onclick = ({ target }) => target.closest("[title]")?.title && note(target.closest("[title]").title, "", 9);
 $("close").onclick = () => $($("all").hidden ? "helpAll" : "numbersAll").click();
-matchMedia("(prefers-color-scheme: dark)").onchange = () => {
-  readTheme();
-  repaint();
-};
+matchMedia("(prefers-color-scheme: dark)").onchange = () => (readTheme(), repaint());
 readTheme();
 document.onfullscreenchange = () => {
   if (!document.fullscreenElement) document.body.classList.remove("bare");

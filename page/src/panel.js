@@ -18,6 +18,7 @@ const of = (text) => each((frame) => text(numbersOf(frame, amount("length"))));
 const value = (number, digits = 3) => (number === undefined || number === null ? "–" : round(number, digits));
 const any = (isSo) => shown.frames.some((frame) => isSo(numbersOf(frame, amount("length"))));
 const isFast = ({ fastestMach }) => fastestMach > MOST_MACH;
+const percent = (part) => (part === undefined ? "–" : `${Math.round(100 * part)} %`);
 const drag = ({ force, u }) => force === null ? "–" : value(force / u, 2);
 
 /** @type {Record<string, () => string[]>} what presets name: a text, and a name for it */
@@ -29,6 +30,8 @@ const MAIN = {
   noise: () => [each(({ noise }) => value(noise, 2)), "noise of v"],
   front: () => [each((frame) => value(frontOf(frame, amount("radius")), 2)), "speed of the front"],
   particles: () => [each(({ particles }) => count(particles)), "particles"],
+  momentum: () => [each(({ stripe }) => percent(stripe[1])), "of its momentum is in the stripe"],
+  inside: () => [each(({ stripe }) => percent(stripe[0])), "of its particles"],
   found: () => [each(({ found }) => (found === null ? "–" : count(found))), `of ${count(head().width * head().height)} cells differ`],
   unlike: () => [each(({ unlike }) => (unlike === null ? "–" : count(unlike))), "cells differ"],
 };
@@ -42,7 +45,7 @@ export function paintNumbers() {
     const [text, name] = rows[k] ?? ["", ""];
     box.className = k === 0 && isBack ? "back" : "";
     box.hidden = k >= rows.length;
-    box.title = k ? [...warnings].join(" ") : ""; // which a tap shows as a note
+    box.title = /^(reynolds|mach|u)$/.test(own[k - 1]) ? [...warnings].join(" ") : ""; // which a tap shows as a note
     setText(box.children[0], text);
     setText(box.children[1], name);
   });

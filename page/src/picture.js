@@ -3,12 +3,12 @@ import { imageOf, line, theme, within } from "./draw.js";
 import { FIELDS } from "./fields.js";
 import { GASES, SOLID, eastOf, velocities } from "./gases.js";
 import { marks } from "./state.js";
+import { paintTheory } from "./theory.js";
 import { Tracers } from "./tracers.js";
 
 const FAINT = 0.3; // the field behind single cells
 const MOST_PIXELS = 16000; // across a canvas
 const WALL = (255 << 24) | (0x8c << 16) | (0x82 << 8) | 0x78; // the style sheet's --wall
-
 export const coloursOf = (name) => FIELDS[name].palette[theme.isDark ? FIELDS[name].palette.length - 1 : 0];
 
 /** What is kept of a lattice from frame to frame. `walls` are its solid cells, and where they are. */
@@ -55,6 +55,7 @@ export function paintLattice(c, frame, scale, { walls, tracers, field }, hasTrac
   else if (walls) c.drawImage(walls.image, ...["x", "y", "width", "height"].map((part) => walls[part] * scale));
   const ends = [left - half * scale, left + (width + half) * scale];
   for (const y of [top - 1, top + tall + 1]) line(c, ends.map((x) => [x, y]), theme.ink, 3);
+  paintTheory(c, frame, scale, walls);
   paintMarks(c, frame, scale);
 }
 

@@ -8,7 +8,6 @@ const SHARE = 0.45; // of the power is at least near the peak
 const SPREAD = 0.22; // of the periods at most, as a part of their mean
 const WIDE = 0.2; // the part of its frequency that is near the peak
 const STROUHAL = [0.05, 1]; // no wake sheds more slowly or more often
-
 const sum = (values) => values.reduce((a, b) => a + b, 0);
 const mean = (values) => sum(values) / values.length;
 const variance = (values, middle) => mean(values.map((value) => (value - middle) ** 2));
@@ -66,6 +65,10 @@ function lengths(values) {
 }
 
 const rolling = (values, wide) => values.map((_, i) => mean(values.slice(Math.max(0, i - wide), i + wide + 1)));
+
+/** The samples as a text: a line for each. @param {Sample[]} samples @param {Disc} disc */
+export const textOf = (samples, { at: [x, y], radius }) => `# mean velocity in a disc of radius ${radius} about ${x.toFixed(1)} ${y.toFixed(1)}, ` +
+  `in cells per generation\n# generation u v\n${samples.map(({ generation, u, v }) => `${generation} ${u.toFixed(6)} ${v.toFixed(6)}\n`).join("")}`;
 
 /**
  * The period of the flow across in generations, its standard error, how many periods, and the mean speed that met the

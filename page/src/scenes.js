@@ -111,5 +111,4 @@ export function sceneOf(flow) {
 }
 
 /** What `fhpgas run` prints for the cells of a flow. */
-export const printed = (flow) =>
-  `generation ${flow.sceneGeneration} particles ${flow.totals()[1]}\n${lines(flow, "", "\n")}`;
+export const printed = (flow) => `generation ${flow.sceneGeneration} particles ${flow.totals()[1]}\n${lines(flow, "", "\n")}`;

@@ -5,6 +5,7 @@ import { GASES, SOLID, eastOf, equilibrium } from "./gases.js";
 import { bitsOf } from "./lengths.js";
 import { isInText } from "./message.js";
 import { fillStates } from "./scenes.js";
+import { stripeOf } from "./stripe.js";
 import { dense } from "./tools.js";
 
 // whether a place is solid in a channel W wide and T tall, with obstacles of radius R
@@ -15,7 +16,7 @@ const SOLIDS = {
 };
 const PARTICLES = { pair: 0x09, triple: 0x15 };
 const GRAINS = 0.15;
-const DISSOLVED = 3000; // generations after which a text is noise
+const DISSOLVED = 3000, SAMPLED = 50; // generations after which a text is noise, and between two entropies until then
 
 /** Puts grains of a radius anywhere until a part of the cells is solid: of twice as many some leave one throat. */
 function putGrains({ drive, cells }, states, tall, radius) {
@@ -53,13 +54,19 @@ export function drawn(make, start) {
     const inner = fillStates(gas, states.slice(), BigInt(seed) + 1n, rates(0.6));
     all(isInText(text, width, tall), (at) => (states[at] = inner[at]));
   }
+  const [first, rows] = [Math.ceil(height / 2 - radius), 2 * radius], isStripe = shape === "stripe";
+  if (isStripe) for (let at = first * width; at < (first + rows) * width; at++) states[at] |= 1; // a particle eastwards
   flow.cells.fill(states);
+  if (isStripe) flow.stripe = stripeOf(flow, first, rows);
   flow.shape = flow.kernel.solid.slice();
   for (const bit of unlike) flow.shape[bit >> 5] ^= 1 << bit;
   if (shape === "sound") dense(flow, { at: [width / 2, tall / 2], radius });
   flow.begin();
   flow.isMessage = shape === "text";
-  if (flow.isMessage) flow.advance(DISSOLVED);
+  while (flow.isMessage && flow.generation < DISSOLVED) {
+    flow.way.push([flow.generation, flow.entropy]);
+    flow.advance(SAMPLED);
+  }
   flow.notes = states.every((state) => state === SOLID) ? ["All cells are solid: choose more cells, or a smaller obstacle."]
     : isDeveloped && !developed ? ["No such flow is kept as it is once developed, so this one begins fresh."] : [];
   return flow;

@@ -3,12 +3,10 @@ import { PRESETS } from "./presets.js";
 
 export const NEAR = 10; // pixels across a cell from which single cells are shown
 export const GAP = 16; // pixels between two pictures
-
 /** The page as it came, for a file to send, and the start that it was sent with, which it has for an address. */
 export const source = `<!doctype html>\n${document.documentElement.outerHTML}\n`;
 export const sent = document.getElementById("sent")?.textContent ?? "";
 export const isFile = !location.protocol.startsWith("http"); // to which no link leads from elsewhere
-
 export const isStill = matchMedia("(prefers-reduced-motion: reduce)").matches; // nothing moves before one asks for it
 
 /** What the worker sent, and what is on the screen of it. */
@@ -27,7 +25,6 @@ export const shown = {
 
 /** Where one looks: the place at the upper left, and pixels per cell. What was sent of it. The pace before single cells. */
 export const look = { place: { x: 0, y: 0, scale: 0 }, isWhole: true, sent: "", pace: "" };
-
 /** `isTool` says whether the tool was chosen, so that arrows move a mark for it. */
 export const chosen = { preset: "", field: "vorticity", tool: "draw", isTool: false, text: "" };
 export const preset = () => PRESETS[chosen.preset];
@@ -74,5 +71,4 @@ export const setWords = (node, text) =>
 
 /** Each value once, of all pictures. */
 export const each = (text) => [...new Set(shown.frames.map(text))].join(" | ");
-
 export const paneWidth = (width) => (width - GAP * (shown.frames.length - 1)) / shown.frames.length;

@@ -53,7 +53,7 @@ function addWord(block, { cells, solid, width, per, gas: { directions, momenta }
 }
 
 /** The bits under a mask of a plane's word in some rows: of each byte in that byte. */
-function countRows(plane, at, stride, rows, mask) {
+export function countRows(plane, at, stride, rows, mask) {
   let sum = 0;
   for (let y = 0; y < rows; y++, at += stride) sum += bytes(plane[at] & mask);
   return sum;

@@ -5,7 +5,7 @@ import { isFilming } from "./files.js";
 import { GASES } from "./gases.js";
 import { count } from "./numbers.js";
 import { PRESETS } from "./presets.js";
-import { $, chosen, head, isFile, isStill, motion, preset, shown } from "./state.js";
+import { $, chosen, head, isFile, isStill, marks, motion, preset, shown } from "./state.js";
 
 const SIZES = ["4 x 3", "64 x 32", "256 x 128", "256 x 256", "256 x 384", "512 x 192", "512 x 256", "512 x 512",
   "512 x 768", "640 x 960", "1024 x 384", "1024 x 512", "2048 x 512", "2048 x 1024", "3200 x 1016", "4096 x 1024"];
@@ -13,7 +13,6 @@ const PACES = ["3 s", "1 s", "0.3 s", "5/s", "15/s", "60/s", "300/s", "most"]; /
 const SIDES = [["left", "left"], ["right", "right"], ["seeded", "at random"]];
 export const BLOCKS = [[1, 0], [2, 0], [2, 2], [4, 2], [8, 2], [16, 2], [32, 2]]; // columns, and how often smoothed
 export const SPANS = [1, 3, 10, 30, 100, 300, 1000, 3000, 10000, 30000];
-
 const hasCone = () => chosen.field === "difference" || preset().flips;
 const isBare = () => document.body.classList.contains("bare");
 const isWaiting = () => !shown.isRunning && (isStill || preset().rests) && head()?.generation === 0 && !motion.isOn;
@@ -61,7 +60,8 @@ export const tableOf = (acts) => /** @type {any} */ ([
         { isPressed: () => chosen.field === id, isHidden: () => id === "difference" && !hasCone() })),
     slider("s", "smooth", "mean of", [0, BLOCKS.length - 1, 1], acts.look, wide),
     slider("a", "span", "and of", [0, SPANS.length - 1, 1], acts.look, (value) => `${count(SPANS[value])} gen.`),
-    check("y", "tracers", "tracers", acts.look, { attributes: { checked: "" } })] },
+    check("y", "tracers", "tracers", acts.look, { attributes: { checked: "" } }),
+    check(";", "entropy", "entropy", acts.look, { attributes: { checked: "" } })] },
   { title: "Do, on the picture", place: "panel", controls: [
     ...["m move", "d draw", "e erase", "n dense", "t flip turn 1", "p probe"].map((tool) => {
       const [key, id, ...words] = tool.split(" "), isPressed = () => chosen.tool === id;
@@ -79,6 +79,7 @@ export const tableOf = (acts) => /** @type {any} */ ([
     half("v", "film", "film", acts.film, { isPressed: isFilming, text: () => (isFilming() ? "stop" : "film") }),
     half("8", "picture", "picture", acts.picture),
     half("9", "link", "link", acts.link),
+    button("_", "samples", "Save samples", acts.samples, { style: "full", isOff: () => !marks.samples.length }),
     check("F4", "letters", "letters", undefined, { attributes: { checked: "" } }),
     button("=", "numbersAll", "all numbers", acts.numbers, { style: "full", isPressed: () => !$("all").hidden })] },
   { title: "", place: "transport", controls: [

@@ -1,6 +1,7 @@
 // What the worker sent is taken: the next frame, perhaps of flows that begin.
 import { again } from "./acts.js";
 import { OPENED, applyState, hasText, setControl, showOpened, stateText } from "./address.js";
+import { follow } from "./curve.js";
 import { fit, lookAsAsked } from "./look.js";
 import { count } from "./numbers.js";
 import { wallsOf } from "./picture.js";
@@ -27,6 +28,7 @@ export function take({ frames, serial, asked: number, undoes, redoes, isRunning,
   });
   if (before && direction > before.direction) runsForwards(frames[0]);
   if (isMoved) sample(frames[0]);
+  follow(frames[0], before);
   tellReturn(before);
   if (isMoved && shown.isRunning && isSlow()) move();
 }
@@ -55,7 +57,7 @@ function tellReturn(before) {
 
 /** Of a message the sentence says it, because a note would lie on the text. */
 function tellMessage(found) {
-  introduce(found ? "One change is enough: the text does not come back." : "Each cell is as it was. Now turn one particle (t), and try again.");
+  introduce(found ? "It does not come back." : "It came back.");
   const offer = (id, text, isTurned) => {
     const one = element("button", { id, type: "button" }, text);
     one.onclick = () => again(isTurned);

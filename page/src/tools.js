@@ -72,8 +72,7 @@ function undoing(flow, flips, what, { changes, isDisturbed, mark }, undo = () =>
 }
 
 /**
- * Fills a disc with particles that are taken at random from everywhere else: number and momentum of all stay. Returns what
- * undoes it.
+ * Fills a disc with particles that are taken at random from everywhere else: number and momentum of all stay. Returns what undoes it.
  */
 export function dense(flow, { at, radius }) {
   const { cells, gas, drive } = flow, before = { ...flow }, { random } = drive, flips = /** @type {number[][]} */ ([]);

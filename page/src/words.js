@@ -24,4 +24,8 @@ export function note(text, kind, lasting) {
   return one;
 }
 
-export const hideNotes = () => $("note").replaceChildren();
+/** Hides what was said of cells that are going. */
+export function hideNotes() {
+  $("note").replaceChildren();
+  if ($("again")) introduce();
+}

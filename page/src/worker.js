@@ -28,8 +28,8 @@ const actsOf = (work, experiment) => ({
       work.post("fault", { fault: /** @type {Error} */ (fault).message, isRefused: true });
     }
   },
-  run: ({ on, pace, asked, isOther }) =>
-    Object.assign(work, { isRunning: on && (isOther || !experiment.isBack), pace, runs: asked, since: performance.now() }),
+  run: ({ on, pace, asked: runs, isOther }) =>
+    Object.assign(work, { isRunning: on && (isOther || !experiment.isBack), pace, runs, since: performance.now() }),
   step: () => (work.isStep = true),
   back: () => experiment.reverse((flow) => flow.back()),
   turn: () => experiment.reverse((flow) => flow.reverse()),

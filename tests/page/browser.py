@@ -275,6 +275,9 @@ def test_probe(page):
     place = round(x - size["width"] / 2), round(y - size["height"] / 2)
     ActionChains(page.driver).move_to_element_with_offset(page.view, *place).click().perform()
     page.wait("marks.samples.length > 5 && $('found').textContent.includes('no period yet')")
+    samples = page.saved("samples", ".txt").decode().splitlines()
+    assert samples[1] == "# generation u v" and len(samples) > 6, samples[:3]
+    assert all(len([float(one) for one in row.split()]) == 3 for row in samples[2:])
     edges = page.js(
         "const [chart, words] = $('probed').children, box = words.getBoundingClientRect();"
         "return [chart.getBoundingClientRect().right, box.left, words.scrollWidth - words.clientWidth, box.right, innerWidth]"
@@ -451,11 +454,17 @@ def test_message(tab):
     assert page.wait(f"{CONTRAST} > 60"), "and can be read"
     told = page.now("[$('numbers').children[1].textContent, $('sentence').textContent, notes.length]")
     assert told[0] == "0of 32,768 cells differ" and told[2] == 0, ("no note lies on it", told)
-    assert "Now turn one particle" in told[1], told
+    assert told[1].startswith("It came back"), told
+    curve = page.now("$('found').textContent.match(/[0-9][.][0-9]{4}/g)")
+    assert len(curve) == 3 and curve[0] == curve[2] < curve[1], ("the entropy fell to its start", curve)
     page.click("once")
     assert page.wait("head.found !== null && head.found") > 1000, "with one flipped it does not"
     assert abs(page.now(CONTRAST)) < 25, "and cannot be read"
     assert "does not come back" in page.now("$('sentence').textContent")
+    first, turned, last = page.now("$('found').textContent.match(/[0-9][.][0-9]{4}/g)")
+    assert float(last) > (float(first) + 3 * float(turned)) / 4, "and the entropy stays up"
+    page.js("$('entropy').click()")
+    assert page.wait("$('probed').hidden && head.entropy === null"), "its curve can be hidden"
     page.click("again"), page.wait("head.generation === 3000 && head.found === null")
     assert page.now("$('sentence').textContent").startswith("There is a message"), "the noise again"
     page.drag("draw", (60, 60)), page.click("turn")

@@ -25,9 +25,9 @@ import { Experiment } from "../../page/src/experiment.js";
 import { Watched } from "../../page/src/frames.js";
 import { GASES, SOLID } from "../../page/src/gases.js";
 import { isInText, refusalOf, sealed, spelled, unsealed } from "../../page/src/message.js";
-import { frontOf, numbersOf, strouhal, viscosity } from "../../page/src/numbers.js";
+import { STREET, frontOf, numbersOf, profileOf, strouhal, viscosity } from "../../page/src/numbers.js";
 import { PRESETS } from "../../page/src/presets.js";
-import { periodOf } from "../../page/src/probe.js";
+import { periodOf, textOf } from "../../page/src/probe.js";
 import { readScene, sceneOf } from "../../page/src/scenes.js";
 import { drawn } from "../../page/src/starts.js";
 import { Stroke, cleared, dense, flipOne } from "../../page/src/tools.js";
@@ -266,6 +266,55 @@ for (const [way, k, middle] of [["across", 0, 300], ["down", 1, 150]]) test(`a t
 });
 test("and fills a good part of it", () => assert.ok(places.length > 20_000 && places.length < 90_000));
 
+// -- the entropy
+
+/** Cells with their entropies while a burst spreads, and those on the way back at the same generations. */
+function spreading(gas) {
+  const flow = flowOf({ gas, chirality: gas === "hpp" ? "seeded" : "left", width: 128, height: 96, shape: "sound", radius: 12, filling: 0.1 });
+  const { width, height } = flow.cells, there = [], back = [];
+  for (let g = 0; g < 100; g += 20) (there.push({ gas, width, height, states: Array.from(flow.cells.states()), entropy: flow.entropy }), flow.advance(20));
+  flow.reverse();
+  for (let g = 0; g < 100; g += 20) (flow.advance(20), back.unshift(flow.entropy));
+  return { there, back };
+}
+const spread = Object.keys(GASES).map(spreading), seen = spread.flatMap(({ there }) => there);
+for (const { there, back } of spread) test(`the entropy of ${there[0].gas} rises, and falls as it rose`, () => {
+  const entropies = there.map(({ entropy }) => entropy);
+  assert.deepEqual(back, entropies, "each digit");
+  assert.ok(entropies[4] > entropies[0] + 0.02, `it rises: ${entropies}`);
+});
+const [python, has] = spawnSync("python3", [`${root}tests/lib/needs.py`]).stdout.toString().split("\n");
+test("entropies are those of experiments/entropy.py", { skip: !/numpy.*scipy/.test(has) && "Python lacks numpy and scipy" }, () => {
+  const code = `import json, sys; import entropy, fhpgas, numpy as np
+print([entropy.entropy(fhpgas.Lattice(np.reshape(one["states"], (one["height"], one["width"])), gas=one["gas"])) for one in json.load(sys.stdin)])`;
+  const env = { ...process.env, PYTHONPATH: `${root}python:${root}experiments` }, done = spawnSync(python, ["-c", code], { env, input: JSON.stringify(seen) });
+  const known = JSON.parse(done.stdout.toString() || assert.fail(done.stderr.toString()));
+  seen.forEach(({ gas, entropy }, k) => near(gas, entropy, known[k], 1e-12));
+});
+test("an entropy has no solid cells", () => {
+  const flow = flowOf({ shape: "plate", radius: 8, width: 64, height: 32 }), [fluid] = flow.totals(), states = flow.cells.states();
+  const of = (d) => (d > 0 && d < 1 ? -d * Math.log(d) - (1 - d) * Math.log(1 - d) : 0), blocks = Array.from({ length: 32 }, (_, k) => [8 * (k % 8), 8 * (k >> 3)]);
+  const sum = blocks.map(([x, y]) => {
+    const inside = [...states].filter((state, at) => state !== SOLID && at % 64 >> 3 === x >> 3 && at >> 9 === y >> 3);
+    return Array.from({ length: 6 }, (_, i) => inside.length && inside.length * of(inside.filter((state) => state >> i & 1).length / inside.length));
+  }).flat().reduce((a, b) => a + b);
+  assert.ok(fluid < 64 * 32);
+  near("its entropy", flow.entropy, sum / fluid, 1e-12);
+});
+test("the entropy of a message", () => {
+  const flow = flowOf({ width: 256, height: 128, filling: 0.12, shape: "text", text: "HI" }), rise = flow.entropy - flow.way[0][1];
+  const back = (change) => {
+    const one = flowOf({ width: 256, height: 128, filling: 0.12, shape: "text", text: "HI" });
+    change(one);
+    one.reverse();
+    one.advance(2950);
+    return one.entropy;
+  };
+  assert.ok(flow.way.length === 60 && rise > 0.1, `it has risen: ${rise}`);
+  assert.equal(back(() => 0), flow.way[1][1], "all turned it falls");
+  assert.ok(Math.abs(back((one) => flipOne(one, [100, 50])) - flow.entropy) < 0.02 * rise, "one turned it does not");
+});
+
 // -- undo
 
 test("one history of all that was done", () => {
@@ -324,6 +373,24 @@ function profile(wind, generations) {
 }
 for (const [wind, generations] of [[0.14, 40_000], [0.04, 300_000]]) test(`a channel at wind ${wind}`, () => profile(wind, generations));
 
+// the fastest row of the preset, as it is drawn over the picture
+const fastest = (wind) => {
+  const { size, fill: filling, gases: [gas], shapes: [shape] } = PRESETS["empty channel"], [width, height] = size.split(" x ").map(Number), found = [];
+  const flow = flowOf({ gas, shape, width, height, filling, wind, keep: true, seed: "1" }), watched = new Watched(flow);
+  flow.advance(16_000);
+  while (flow.generation < 36_000) {
+    for (let g = 0; g < 1000; g += 50) (watched.advance(50), watched.velocity.add(50, flow.sums(16, 18)));
+    found.push(profileOf({ height, velocity: watched.velocity.mean }).fastest);
+  }
+  return found.reduce((a, b) => a + b) / found.length;
+};
+test("the fastest row of an empty channel", () => near("a part of the mean", fastest(0.14), 1.5, 0.03));
+test("the fastest row in a fast wind", () => near("a part of the mean", fastest(0.3), 1.44, 0.03));
+test("the profile of a drawn flow", () => {
+  const u = [1, 1, 4, 4, 1, 1], { means, middles, fastest: most } = profileOf({ height: 20, velocity: { columns: 2, rows: 3, u, height: 8 } });
+  assert.deepEqual([means.map((one) => one * 11), middles, most * 11], [[5, 20, 5], [4, 12, 18], 20]); // the mean is (8 + 32 + 4) / 20
+});
+
 // force over u in a porous medium, with the generations that the drive's mean then has forgotten
 const drag = (wind, seed) => {
   const flow = flowOf({ width: 512, height: 256, filling: 0.3, wind, keep: true, shape: "porous", radius: 8, seed }), found = { force: 0, u: 0 };
@@ -371,9 +438,12 @@ test("the front", () => {
   const pixels = Uint8Array.from({ length: 10_000 }, (_, i) => 128 + 100 * Math.exp(-(((Math.hypot((i % 100) - 49.5, Math.floor(i / 100) - 49.5) * 4 - 80) / 15) ** 2)));
   near("the front of a drawn ring", frontOf({ ...ring, pixels }, 20), (80 + 15 * Math.sqrt(Math.LN2) - 20) / 100, 0.02);
   assert.equal(frontOf({ ...ring, pixels, field: "speed" }, 20), null, "another field has none");
-  const watched = new Watched(flowOf({ width: 512, height: 256, shape: "sound", radius: 22 }));
-  watched.advance(100);
-  near("a burst's front runs as fast as sound", frontOf(watched.frame({ field: "density", block: 4, smooth: 2, span: 1, window: null }, 100), 22), Math.SQRT1_2, 0.06);
+});
+for (const radius of [10, 22, 40]) test(`the front of a burst of radius ${radius}`, () => {
+  const watched = new Watched(flowOf({ width: 512, height: 256, filling: PRESETS["sound ring"].fill, shape: "sound", radius }));
+  watched.advance(80);
+  near("its speed, which is above that of quiet sound", frontOf(watched.frame({ field: "density", block: 4, smooth: 2, span: 1, window: null }, 80), radius), 0.75, 0.05);
+  near("quiet sound", watched.flow.gas.sound, 0.71, 0.005);
 });
 const street = { gas: "fhp-rest", directions: 7, fluid: 1000, particles: 1260, u: 0.299, v: 0, chirality: "seeded", fastest: 0.374 };
 const numbers = numbersOf(street, 160);
@@ -383,6 +453,8 @@ isNear("Mach", numbers.mach, 0.46, 0.005);
 isNear("Mach of the fastest block", numbers.fastestMach, 0.57, 0.005);
 test("its warning", () => assert.ok(numbers.warnings.some((text) => text.startsWith("Mach 0.57"))));
 isNear("Strouhal of the mean speed", strouhal(160, 2 * 2383, numbers.g, 0.299), 0.247, 0.001);
+isNear("the period of a street in the sentence", numbers.turnover / STREET, 4700, 50);
+isNear("and as it was measured", 2 * 2383, 4700, 100);
 isNear("Strouhal of the incoming speed", strouhal(160, 2 * 2383, numbers.g, 0.374), 0.198, 0.001);
 const FILLINGS = [0.1, 0.3, 0.7], code = `import json; from fhpgas.gas_table import GASES
 print(json.dumps({name: [number, gas.momenta, gas.units, gas.correlated, [gas.viscosity(d) for d in ${JSON.stringify(FILLINGS)} if gas.viscosity]]
@@ -426,8 +498,34 @@ test("a flow ahead of a plate", () => {
   near("blocked part of a plate", frame.blockage, 15 / 64, 1e-9);
 });
 
+// -- rows
+
+test("a stripe's momentum stays in its rows in HPP, and spreads in FHP-I", () => {
+  const { radius, fill: filling, size } = PRESETS["a stripe in HPP beside FHP's"], [width, height] = size.split(" x ").map(Number);
+  for (const [gas, seed] of [["hpp", "1"], ["hpp", "2"], ["fhp1", "1"]]) {
+    const flow = flowOf({ gas, width, height, filling, shape: "stripe", radius, seed }), rows = () => {
+      const { columns, numbers } = flow.sums(32, 1), sums = new Array(height).fill(0);
+      for (let k = 0; k < numbers.length; k += 4) sums[Math.floor(k / 4 / columns)] += numbers[k + 2];
+      return sums;
+    };
+    const before = rows(), own = before.map((sum, y) => (sum > width / 2 ? y : -1)).filter((y) => y >= 0);
+    assert.deepEqual([own.length, own[0]], [2 * radius, height / 2 - radius], `${gas}: the stripe is in the middle`);
+    flow.advance(1000);
+    const after = rows(), [particles, momentum] = flow.stripe(), of = (sums) => own.reduce((sum, y) => sum + sums[y], 0);
+    near("what is shown of its momentum", momentum, of(after) / of(before), 1e-12);
+    assert.ok(particles < 0.85, `${gas}: particles have left it: ${particles}`);
+    if (gas === "hpp") assert.deepEqual(after, before, "each row has its momentum");
+    else assert.ok(momentum < 0.3, `it has spread: ${momentum}`);
+  }
+});
+
 // -- the probe
 
+test("samples as a text", () => {
+  const samples = [[10, 0.25, -0.5], [20, 1 / 3, 0]].map(([generation, u, v]) => ({ generation, u, v, incoming: null }));
+  const lines = textOf(samples, { at: [3, 4], radius: 5 }).split("\n").filter((row) => !row.startsWith("#"));
+  assert.deepEqual(lines, ["10 0.250000 -0.500000", "20 0.333333 0.000000", ""]);
+});
 const wave = (period, noise, random) => Array.from({ length: 6000 }, (_, k) => {
   const v = Math.sin((2 * Math.PI * 10 * k) / period) + noise * (random.chance() + random.chance() + random.chance() - 1.5);
   return { generation: 10 * k, u: 0, v, incoming: 0.3 };
