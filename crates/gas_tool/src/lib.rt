@@ -11,7 +11,9 @@
 //! `example_columns` is a program that calls `slurp`.
 #![tactic(auto)]
 
+pub mod examples;
 pub mod faults;
+pub mod laws;
 pub mod program;
 mod requests;
 
