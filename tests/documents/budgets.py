@@ -25,10 +25,10 @@ def size(path):
 BUDGETS = [
     (words, "README.md", 890),  # what is read first
     (words, "CONTRIBUTING.md", 1_430),
-    (words, "docs/ANSWERS.md", 1_500),
+    (words, "docs/ANSWERS.md", 1_630),
     (words, "docs/ARCHITECTURE.md", 1_800),
     (words, "docs/DECISIONS.md", 2_700),
-    (words, "docs/EXPERIMENTS.md docs/DERIVATION.md", 5_900),
+    (words, "docs/EXPERIMENTS.md docs/DERIVATION.md", 5_600),
     (words, "docs/FORMATS.md", 2_250),
     (words, "docs/GLOSSARY.md", 650),
     (words, "docs/GUIDE.md", 2_200),
@@ -36,14 +36,14 @@ BUDGETS = [
     (words, "docs/LIBRARY.md", 630),
     (words, "docs/NOTICES.md", 250),
     (words, "docs/PERFORMANCE.md", 950),
-    (words, "docs/PHYSICS.md", 1_750),
+    (words, "docs/PHYSICS.md", 1_920),
     (words, "docs/PROVED.md", 3_100),
     (words, "docs/TROUBLE.md", 450),
     (words, "plain/README.md", 400),
     (words, "scenes/reference/README.md", 200),
     (lines, "experiments/*.py", 1_850),
     (lines, "page/src/*", 4_350),
-    (size, "page/fhpgas.html", 165_000),
+    (size, "page/fhpgas.html", 168_000),
 ]
 GROWING = {"CHANGELOG.md", "bench/LOG.md"}
 
