@@ -25,7 +25,7 @@ tests() {
 # sources WORDS..: what needs no program, with pytest's words on the documents
 sources() {
     tests tests/scripts.py -k lint
-    tests tests/documents/{links,sentences,budgets,definitions,proved,promises}.py tests/program/code_without_contract.py \
+    tests tests/documents/{links,sentences,budgets,definitions,proved,promises,weakened}.py tests/program/code_without_contract.py \
         tests/package/{imports,derivation,tested_functions}.py "$@"
 }
 
