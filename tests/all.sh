@@ -22,11 +22,11 @@ tests() {
     done
 }
 
-# sources WORDS..: what needs no program, with pytest's words on the documents
+# sources: what needs no program
 sources() {
     tests tests/scripts.py -k lint
     tests tests/documents/{links,sentences,budgets,definitions,proved,promises,weakened}.py tests/program/code_without_contract.py \
-        tests/package/{imports,derivation,tested_functions}.py "$@"
+        tests/package/{imports,derivation,tested_functions}.py
 }
 
 # examples NAME..: whether the sources print what these worked examples want, compiled once and without a proof
@@ -74,6 +74,7 @@ plain() {
 # programs. A wrong body that is refused only by a name says little of a contract.
 gate() {
     rt ci 2>&1 | tee "$room/gate" || exit 1
+    echo x86-64-v2 > "${program%/*}/level" # for which rt builds
     rm -f python/fhpgas/libfhpgas-* # to be built over what was proved now
     if grep 'only because a proof file names what the edit took away' "$room/gate"; then
         echo 'tests: these edits say little of a contract: let them change a value and keep the names'
@@ -108,14 +109,13 @@ case $1 in
     test)
         unset FHPGAS # what is built here is tried
         set_up
-        sources -k 'not c_functions' # which the build below names
+        sources
         tests tests/scripts.py -k 'missing_libraries or makefile'
         tests tests/program/lost_wake_ups.py
         if has rt 'the proofs, and the tests of help, terminal, refused memory, library, release and first change'; then
             gate
             tests tests/program/wrong_bodies.py --gate "$room/gate"
-            try 'program and engine are built' make -s CPU=x86-64-v2
-            tests tests/documents/proved.py -k c_functions
+            try 'the engine is built' make -s engine
             plain
             tests tests/program/{help,refused_memory,terminal}.py tests/documents/{library,first_change}.py
             tests tests/scripts.py -k release

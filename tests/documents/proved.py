@@ -38,6 +38,7 @@ def assumed(log):
     return " ".join(f"{crate}: {names}" for crate, names in named.items() if names)
 
 
+@pytest.mark.may_be_left_out  # the gate leaves no log of the program, `make` does
 @pytest.mark.skipif(
     not LOG.exists(), reason="make left no log of the program, with the C functions"
 )
