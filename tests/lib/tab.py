@@ -29,7 +29,9 @@ NAMES = (
 class Page:
     """A tab of Chromium with the page of an address, in a window of a size, with fingers if it is a phone's."""
 
-    def __init__(self, room, after="", size=(1300, 860), has_fingers=False, address=f"file://{FILE}"):
+    def __init__(
+        self, room, after="", size=(1300, 860), has_fingers=False, address=f"file://{FILE}"
+    ):
         options = webdriver.ChromeOptions()
         for word in WORDS:
             options.add_argument(word)

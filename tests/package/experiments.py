@@ -272,7 +272,8 @@ def test_rows():
 
 def test_the_function_of_rows():
     """The function's double integral is the variance of P. L. Ferrari and H. Spohn's distribution,
-    Commun. Math. Phys. 265 (2006) 1, from its Fredholm determinants. Its fourth part is f'' = 4 f."""
+    Commun. Math. Phys. 265 (2006) 1, from its Fredholm determinants. Its fourth part is f'' = 4 f.
+    """
     y, step = np.linspace(0, 1, 1001, retstep=True)
     inner = (1 - y) * rows_script.scaling(y)
     summed = 1.1503945 + 4 * step * (inner.sum() - inner[0] / 2)

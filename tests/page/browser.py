@@ -452,11 +452,16 @@ def test_message(tab):
     page = tab(link)
     comes_back(page)
     assert page.wait(f"{CONTRAST} > 60"), "and can be read"
-    told = page.now("[$('numbers').children[1].textContent, $('sentence').textContent, notes.length]")
+    told = page.now(
+        "[$('numbers').children[1].textContent, $('sentence').textContent, notes.length]"
+    )
     assert told[0] == "0of 32,768 cells differ" and told[2] == 0, ("no note lies on it", told)
     assert told[1].startswith("It came back"), told
     curve = page.now("$('found').textContent.match(/[0-9][.][0-9]{4}/g)")
-    assert len(curve) == 3 and curve[0] == curve[2] < curve[1], ("the entropy fell to its start", curve)
+    assert len(curve) == 3 and curve[0] == curve[2] < curve[1], (
+        "the entropy fell to its start",
+        curve,
+    )
     page.click("once")
     assert page.wait("head.found !== null && head.found") > 1000, "with one flipped it does not"
     assert abs(page.now(CONTRAST)) < 25, "and cannot be read"
@@ -491,7 +496,9 @@ PASTE = "const data = new DataTransfer(); data.setData('text', arguments[0]); do
 def test_sent(tab, tmp_path):
     """From a file a message is sent as a file, which has the page. A link to any page opens if it is pasted."""
     page = tab(MESSAGE)
-    page.choose("change", text="iwi"), page.wait("chosen.text === 'IWI' && head.generation === 3000")
+    page.choose("change", text="iwi"), page.wait(
+        "chosen.text === 'IWI' && head.generation === 3000"
+    )
     page.click("send")
     assert "no link leads to it" in page.wait("$('pack') && notes.at(-1)")
     sent, link = page.saved("pack", ".html"), page.now("location.hash")
