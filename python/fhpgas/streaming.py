@@ -34,7 +34,7 @@ def _behind(gas: Gas, cells: Array, direction: int) -> Array:
     return found
 
 
-def collided(lattice: Lattice) -> States:
+def collided(self: Lattice) -> States:
     """The states between the collision and the streaming of the next generation: those of `run(1)`,
     whose particles move back along their links.
 
@@ -54,7 +54,7 @@ def collided(lattice: Lattice) -> States:
     >>> fhpgas.Lattice([[0, 9, 0]], chirality="left").collided().tolist()
     [[0, 18, 0]]
     """
-    gas, shifts = lattice.gas, np.arange(lattice.gas.directions, dtype=np.uint8)[:, None, None]
-    reversed_: Any = gas.turned[lattice.run(1).states]
-    back = streamed(gas, lattice.solid, reversed_ >> shifts & 1)
+    gas, shifts = self.gas, np.arange(self.gas.directions, dtype=np.uint8)[:, None, None]
+    reversed_: Any = gas.turned[self.run(1).states]
+    back = streamed(gas, self.solid, reversed_ >> shifts & 1)
     return gas.turned[(back << shifts).sum(0, dtype=np.uint8)]
