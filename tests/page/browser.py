@@ -128,7 +128,7 @@ def edited(page):
     page.wait(f"solid === {solid}")
     assert page.now("head.particles") == particles, "a stroke is undone"
     assert page.wait("shown.redoes && $('redo').textContent").startswith("redo stroke")
-    page.key(Keys.SHIFT, Keys.BACKSPACE)
+    page.click("redo")
     assert page.wait(f"solid > {solid} + 500 && solid") == drawn, "and drawn again"
     page.drag("erase", (150, 60), (160, 70))
     page.wait(f"solid < {drawn}")
