@@ -1,7 +1,7 @@
 #!/usr/bin/env python3
 """Instructions of `fhpgas run` per row and generation, which valgrind's callgrind counts: the same on an idle and on a busy machine. 16 stages
 on one thread, a lattice of 64 rows filled at rate 300, with a solid cell in each row or with none. What a run does once is taken off: of a run
-of 96 generations the count of one of 32. Prints a table, which tests/plain/instructions.py compares with the one of docs/PERFORMANCE.md.
+of 96 generations the count of one of 32. Prints a table, which tests/plain/gauge.py compares with the one of docs/PERFORMANCE.md.
 
     bench/instructions.py            of the sources, by plain Rust for x86-64-v3
     bench/instructions.py PROGRAM    of a program, as `make` builds it

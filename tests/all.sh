@@ -67,7 +67,7 @@ plain() {
     FHPGAS=$checked tests tests/scripts.py -k 'crates or front'
     FHPGAS=$checked tests tests/plain/{stripping,differences}.py tests/program/{command_line,mutated_scenes}.py --scenes 300
     tests tests/plain/{calls,sanitizers}.py -k 'libraries or threads' # the other sanitizer is for a release
-    tests tests/plain/instructions.py
+    tests tests/plain/gauge.py
 }
 
 # gate: proves every crate from scratch, tries the wrong bodies of must-fail/ one by one, and runs the tests and the stored runs of the
