@@ -10,6 +10,7 @@ import pytest
 sys.path.append(str(needs.ROOT / "bench"))
 import instructions
 
+pytestmark = pytest.mark.alone  # one build for all counts
 MORE = 1.03  # the most that a count may be above the table's
 
 
